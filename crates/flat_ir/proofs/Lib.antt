@@ -1,0 +1,10 @@
+pub mod ExamplesOfFlow
+pub mod ExamplesOfMemory
+pub mod ExamplesOfNumbers
+pub mod MadeBasics
+pub mod MadeChanges
+pub mod MadeKept
+pub mod MadeReturns
+pub mod MadeRuns
+pub mod MadeSteps
+pub mod SmallPrograms

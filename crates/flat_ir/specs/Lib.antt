@@ -1,0 +1,15 @@
+pub mod Calls
+pub mod Digest
+pub mod Effects
+pub mod History
+pub mod Machine
+pub mod MadeNames
+pub mod ObjectDigest
+pub mod Orderly
+pub mod Registers
+pub mod Run
+pub mod Same
+pub mod Skipped
+pub mod Sound
+pub mod Steps
+pub mod Whole
