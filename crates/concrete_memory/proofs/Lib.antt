@@ -1,0 +1,12 @@
+pub mod Changes
+pub mod ForCallers
+pub mod FreeFaults
+pub mod Places
+pub mod Powers
+pub mod Reached
+pub mod Samples
+pub mod Starts
+pub mod Stored
+pub mod Unmade
+pub mod Untouched
+pub mod Writes
