@@ -1,0 +1,94 @@
+//! The text of the report and of the lines in its place, and calls of the outside that fail on the way.
+use crate::{Status, chop_main};
+use chop_outside::{FreeGate, MemFiles, MemSink};
+use std::alloc::{AllocError, Global};
+use std::sync::Wait;
+use std::test::Fail;
+use std::thread::Threads;
+
+const RETURNS_ZERO: &str = "define i32 @main() { ret i32 0 }";
+
+const RETURNS_LEAST: &str = "; one\n !two\ndefine i32@\"m\\61in\"( ){ret i32 -1;three\n}\n!four";
+
+const REPORT_OF_LEAST: &str = "options input=0 steps=100000 leaves=10000 shares=1024
+1 complete input=- status=255 output=- steps=1
+total 1 complete 1 fault 0 skipped 0 open 0
+";
+
+const REPORT: &str = "options input=0 steps=100000 leaves=10000 shares=1024
+1 complete input=- status=0 output=- steps=1
+total 1 complete 1 fault 0 skipped 0 open 0
+";
+
+// The status, and what was written, where the file F holds that text and so many bytes pass in a call.
+fn explored<R: Threads + Wait + Sync>(
+    rt: &R,
+    alloc: Global,
+    words: &[&str],
+    text: &str,
+    fails: (u64, u64),
+) -> Result<(Status, Vec<u8>), AllocError> {
+    let mut given = Vec::new(alloc);
+    for word in words {
+        given.push(String::from_str(alloc, word)?)?;
+    }
+    let mut named = Vec::new(alloc);
+    named.push((
+        String::from_str(alloc, "F")?,
+        Vec::from_slice(alloc, text.as_bytes())?,
+    ))?;
+    let mut files = MemFiles::new(named, 16, vec![in alloc; fails.0]?);
+    let mut sink = MemSink::new(alloc, 1000, 16, vec![in alloc; fails.1]?)?;
+    let status = chop_main(rt, alloc, &given, &mut files, &mut sink, &FreeGate);
+    Ok((status, Vec::from_slice(alloc, sink.bytes())?))
+}
+
+#[test]
+fn words_and_texts(rt: HostRuntime) -> Result<(), Fail> {
+    let all = ["explore", "--input", "0", "F"].as_slice();
+    let much = ["explore", "--input", "65", "F"].as_slice();
+    for (words, text, status, written) in [
+        (all, RETURNS_ZERO, Status::Done, REPORT),
+        (all, RETURNS_LEAST, Status::Done, REPORT_OF_LEAST),
+        (
+            ["explore"].as_slice(),
+            RETURNS_ZERO,
+            Status::Usage,
+            "usage end\n",
+        ),
+        (much, RETURNS_ZERO, Status::Usage, "usage 65\n"),
+        (all, "", Status::Refused, "refused NotBuilt\n"),
+        (
+            all,
+            "define i32 @main() { ret i32 4294967296 }",
+            Status::Refused,
+            "refused NotBuilt\n",
+        ),
+        (
+            all,
+            "define i32 @main() { ret i32 0: }",
+            Status::Refused,
+            "refused NotBuilt\n",
+        ),
+    ] {
+        let got = explored(&rt, rt.alloc(), words, text, (0, 0))?;
+        assert_eq!(rt; got.0, status, "at {text}");
+        assert_eq!(rt; got.1.as_slice(), written.as_bytes(), "at {text}");
+    }
+    Ok(())
+}
+
+#[test]
+fn calls_that_fail(rt: HostRuntime) -> Result<(), Fail> {
+    let all = ["explore", "--input", "0", "F"].as_slice();
+    let got = explored(&rt, rt.alloc(), all, RETURNS_ZERO, (0, 3))?;
+    assert_eq!(rt; got.0, Status::WriteFault);
+    assert_eq!(rt;
+        got.1.as_slice(),
+        b"options input=0 steps=100000 lea".as_slice()
+    );
+    let got = explored(&rt, rt.alloc(), all, RETURNS_ZERO, (1, 0))?;
+    assert_eq!(rt; got.0, Status::ReadFault);
+    assert_eq!(rt; got.1.len(), 0);
+    Ok(())
+}

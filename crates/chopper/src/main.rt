@@ -1,0 +1,57 @@
+//! The program `chopper`: explores a module over all inputs of some bytes, and prints what each state came to.
+#![tactic(auto)]
+
+use chop_outside::{FreeGate, HostFiles, HostSink};
+use chop_top::{Status, chop_main};
+use std::process::ExitCode;
+use std::{env, io};
+
+const HELP: &str = "chopper explore --input 0 FILE
+    explores the module in FILE, and prints a line for each state and one for their number
+
+The exit status is 0 with a whole report, 2 where the words aren't these, 3 where FILE is
+refused, 4 where memory ran out, 5 where FILE couldn't be read, and 6 where the report
+couldn't be written.
+";
+
+const VERSION: &str = "chopper 0.1.0\n";
+
+fn code_of(status: Status) -> u8 {
+    match status {
+        Status::Done => 0,
+        Status::Usage => 2,
+        Status::Refused => 3,
+        Status::Memory => 4,
+        Status::ReadFault => 5,
+        Status::WriteFault => 6,
+    }
+}
+
+// Prints a text that no command asked for.
+fn told(rt: &impl Print, text: &str) -> ExitCode {
+    match print!(rt; "{text}") {
+        Ok(()) => ExitCode::from(0),
+        Err(_) => ExitCode::from(code_of(Status::WriteFault)),
+    }
+}
+
+fn main(rt: HostRuntime) -> ExitCode {
+    let alloc = rt.alloc();
+    let Ok(arguments) = env::args(&rt) else {
+        return ExitCode::from(code_of(Status::Usage));
+    };
+    let Ok(words) = arguments.skip(1).collect::<Vec<String>>(alloc) else {
+        return ExitCode::from(code_of(Status::Memory));
+    };
+    if let [word] = words.as_slice() {
+        match word.as_str() {
+            "--help" => return told(&rt, HELP),
+            "--version" => return told(&rt, VERSION),
+            _ => {}
+        }
+    }
+    let mut files = HostFiles::new(&rt);
+    let mut sink = HostSink::new(io::writer(&rt));
+    let status = chop_main(&rt, alloc, &words, &mut files, &mut sink, &FreeGate);
+    ExitCode::from(code_of(status))
+}

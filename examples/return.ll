@@ -1,0 +1,4 @@
+; main returns at once
+define i32 @main() {
+  ret i32 42
+}
