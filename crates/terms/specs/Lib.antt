@@ -1,0 +1,9 @@
+pub mod Tree
+pub mod Codes
+pub mod Nodes
+pub mod Value
+pub mod Same
+pub mod Digest
+pub mod Folding
+pub mod Joining
+pub mod Memo
