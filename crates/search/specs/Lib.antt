@@ -1,0 +1,4 @@
+pub mod Tree
+pub mod Verdict
+pub mod Walks
+pub mod Models
