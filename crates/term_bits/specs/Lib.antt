@@ -1,0 +1,2 @@
+pub mod TermBits
+pub mod Conditions
