@@ -1,0 +1,11 @@
+pub mod Tokens
+pub mod Words
+pub mod Numbers
+pub mod Names
+pub mod Types
+pub mod Constants
+pub mod Instructions
+pub mod Module
+pub mod Unsupported
+pub mod Numbering
+pub mod Laws

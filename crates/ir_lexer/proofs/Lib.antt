@@ -1,0 +1,4 @@
+pub mod Runs
+pub mod Best
+pub mod Found
+pub mod Lexed

@@ -1,0 +1,10 @@
+//! The tokens of a module's text: which text is a token of which kind, the longest token in front, and the one list of
+//! tokens that a text has.
+#![tactic(auto)]
+
+mod classes;
+mod scan;
+#[cfg(test)]
+mod tests;
+pub mod text;
+pub mod token;

@@ -1,0 +1,6 @@
+pub mod Texts
+pub mod Layout
+pub mod Extents
+pub mod Spelling
+pub mod Printing
+pub mod Places

@@ -1,0 +1,4 @@
+pub mod Piece
+pub mod Phrase
+pub mod Exact
+pub mod Reading
