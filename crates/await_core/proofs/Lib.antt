@@ -1,0 +1,16 @@
+pub mod Evaluations
+pub mod Joined
+pub mod Comes
+pub mod OnSlots
+pub mod OnRecords
+pub mod OnRising
+pub mod OnSound
+pub mod OnAwaited
+pub mod OnStanding
+pub mod OnPosts
+pub mod OnEvents
+pub mod OnTurns
+pub mod OnLeaves
+pub mod OnOwning
+pub mod OnFinish
+pub mod OnReaching

@@ -1,0 +1,13 @@
+pub mod Meaning
+pub mod Evaluation
+pub mod Held
+pub mod Slots
+pub mod Load
+pub mod Boards
+pub mod Rising
+pub mod Steps
+pub mod Standing
+pub mod Events
+pub mod Opening
+pub mod Trees
+pub mod Finishing
