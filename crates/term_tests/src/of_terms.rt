@@ -132,6 +132,14 @@ fn shown_twice<H: Home>(alloc: Global, t: &Term<H>) -> Result<(u64, u64), AllocE
     Ok((plain.bits(), once.bits()))
 }
 
+fn chain_value<H: Home>(opened: Opened<Shape>, alloc: Global, times: u32) -> Result<u64, AllocError>
+    requires { opened.seen.book ≡ H.book }
+{
+    let terms = Terms::<H>::new(alloc, opened.named::<H>());
+    let t = chain(&terms, times)?;
+    Ok(shown(&t))
+}
+
 fn chain_values<H: Home>(
     opened: Opened<Shape>,
     alloc: Global,
@@ -161,11 +169,16 @@ fn chains_alike<H: Home>(
 #[test]
 fn the_deepest_chain_is_walked(rt: HostRuntime) -> Result<(), Fail> {
     let most = MOST_LEVELS - 1;
-    assert_eq!(rt;
-        chain_values::<Brand>(Opened::new(), rt.alloc(), 10_000)?,
-        (200, 200)
-    );
+    assert_eq!(rt; chain_value::<Brand>(Opened::new(), rt.alloc(), most)?, 200);
     assert!(rt; chains_alike::<Brand>(Opened::new(), rt.alloc(), most)?);
+    Ok(())
+}
+
+// The walk that remembers needs more stack a level.
+#[test]
+fn a_deep_chain_is_walked_twice(rt: HostRuntime) -> Result<(), Fail> {
+    let values = chain_values::<Brand>(Opened::new(), rt.alloc(), 10_000)?;
+    assert_eq!(rt; values, (200, 200));
     Ok(())
 }
 
