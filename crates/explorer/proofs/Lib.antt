@@ -1,0 +1,4 @@
+pub mod Agreement
+pub mod Frees
+pub mod Sides
+pub mod Walking

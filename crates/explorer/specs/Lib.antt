@@ -1,0 +1,3 @@
+pub mod Exploring
+pub mod Leads
+pub mod Leaves
