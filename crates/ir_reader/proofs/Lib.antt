@@ -1,2 +1,4 @@
 pub mod Digits
 pub mod Escapes
+pub mod Tables
+pub mod Turns

@@ -1,3 +1,4 @@
 pub mod Source
 pub mod Gives
 pub mod Ranges
+pub mod Parts
