@@ -2,3 +2,4 @@ pub mod Digits
 pub mod Escapes
 pub mod Tables
 pub mod Turns
+pub mod Levels

@@ -1,9 +1,9 @@
 -- Turns of the reader's loops.
-use Rattle.std.proofs.Common.{◌≡◌, suc, ◌≤◌, ◌<◌, Bool, true, false, List, [], ◌∷◌, ◌++◌, length, refl, sym, ap, ◌∙◌, arith}
+use Rattle.std.proofs.Common.{◌≡◌, suc, ◌≤◌, ◌<◌, true, false, List, [], ◌∷◌, ◌++◌, length, refl, ap, ◌∙◌, arith}
 use Rattle.std.specs.Prelude.{codes}
 use Rattle.std.proofs.lemmas.List.{length-map}
 use Rattle.phrases.specs.Piece.{Piece, Class, starts}
-use Rattle.phrases.specs.Phrase.{Phrase, Outcome, got, and_then, skip_many, many, ◌>>◌, ◌>>=◌}
+use Rattle.phrases.specs.Phrase.{Phrase, Outcome, got, and_then, skip_many, many, ◌>>◌}
 use Rattle.phrases.specs.Exact.{Exact}
 use Rattle.phrases.specs.Reading.{with_front}
 use Rattle.phrases.proofs.Loops.{turns, shrinks, skip_more}
