@@ -1,2 +1,7 @@
 pub mod Gather
 pub mod Told
+pub mod Digits
+pub mod Escapes
+pub mod Tables
+pub mod Turns
+pub mod Levels

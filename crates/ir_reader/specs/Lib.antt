@@ -6,3 +6,4 @@ pub mod Entities
 pub mod Numbered
 pub mod Reading
 pub mod Refusing
+pub mod Parts

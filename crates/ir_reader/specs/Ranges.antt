@@ -1,5 +1,5 @@
 -- The ranges in which an integer may lie, as values of the code.
-use Rattle.std.specs.Prelude.{ℕ, Bool, nat_le, true}
+use Rattle.std.specs.Prelude.{Bool, nat_le, true}
 use Rattle.ir_tree.specs.declared.constants.Integer.{Integer}
 use Rattle.ir_grammar.specs.Numbers.{fits_any, fits_width, fits_offset, fits_length, fits_index}
 use Rattle.ir_reader.specs.declared.numbers.Range.{Range}

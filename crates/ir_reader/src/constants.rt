@@ -1,8 +1,8 @@
 //! Constants of globals.
 
 ghost use Rattle.std.specs.Prelude.{◌≡◌, ◌∷◌, [], codes};
-ghost use Rattle.phrases.specs.Phrase.{one};
-ghost use Rattle.ir_grammar.specs.Tokens.{mark};
+ghost use Rattle.phrases.specs.Piece.{starts};
+ghost use Rattle.ir_grammar.specs.Tokens.{word, mark, square, brace, packed_brace};
 ghost use Rattle.ir_grammar.specs.Types.{behind_commas, listed};
 ghost use Rattle.ir_grammar.specs.Constants.{flat_constant as flat_phrase, array_constant as array_phrase, struct_constant as struct_phrase, constant_of as constant_phrase, typed_constant as typed_phrase};
 ghost use Rattle.ir_reader.specs.Source.{pieces};
@@ -151,7 +151,7 @@ fn constant_of<'a>(
 
 /// Whether a level of a constant opens.
 fn has_level(source: Source<'_>) -> bool
-    ensures { result ≡ Rattle.phrases.specs.Piece.starts (Rattle.ir_grammar.specs.Tokens.word (codes "getelementptr") ∷ Rattle.ir_grammar.specs.Tokens.square ∷ Rattle.ir_grammar.specs.Tokens.brace ∷ Rattle.ir_grammar.specs.Tokens.packed_brace ∷ []) (pieces source.entry) }
+    ensures { result ≡ starts (word (codes "getelementptr") ∷ square ∷ brace ∷ packed_brace ∷ []) (pieces source.entry) }
 {
     has_word(source, b"getelementptr")
         || has_mark(source, b"[")

@@ -1,10 +1,10 @@
 //! What is read and has no place in the tree: flags, attributes, alignments and attachments.
 
-ghost use Rattle.std.specs.Prelude.{◌≡◌, ◌∷◌, [], map};
+ghost use Rattle.std.specs.Prelude.{◌≡◌, ◌∷◌, ◌++◌, [], map};
 ghost use Rattle.phrases.specs.Piece.{starts};
-ghost use Rattle.phrases.specs.Phrase.{got, but};
-ghost use Rattle.ir_grammar.specs.Tokens.{integer_type};
-ghost use Rattle.ir_grammar.specs.Words.{linkage_words};
+ghost use Rattle.phrases.specs.Phrase.{got, skip, but};
+ghost use Rattle.ir_grammar.specs.Tokens.{words, integer_type};
+ghost use Rattle.ir_grammar.specs.Words.{attribute_words, linkage_words};
 ghost use Rattle.ir_grammar.specs.Types.{flags as flags_phrase, alignment as alignment_phrase, long_attribute as long_phrase, attribute_or, attribute_starts, attributes as attributes_phrase};
 ghost use Rattle.ir_grammar.specs.Instructions.{attached as attached_phrase, after as after_phrase, after_alloca as after_alloca_phrase, string_attribute as string_phrase, tail_item as tail_item_phrase, tail_starts, tail as tail_phrase, volatile as volatile_phrase, tail_mark as tail_mark_phrase};
 ghost use Rattle.ir_grammar.specs.Module.{ignored as ignored_phrase};
@@ -66,30 +66,8 @@ const ATTRIBUTES: [&[u8]; 22] = [
     b"allocalign",
 ];
 
-/// Those, and what else may stand in front of a global or a function.
-const IGNORED: [&[u8]; 32] = [
-    b"noundef",
-    b"nonnull",
-    b"zeroext",
-    b"signext",
-    b"inreg",
-    b"noalias",
-    b"nocapture",
-    b"readonly",
-    b"readnone",
-    b"writeonly",
-    b"returned",
-    b"immarg",
-    b"nofree",
-    b"noreturn",
-    b"nounwind",
-    b"willreturn",
-    b"unnamed_addr",
-    b"local_unnamed_addr",
-    b"fastcc",
-    b"ccc",
-    b"allocptr",
-    b"allocalign",
+/// What may stand in front of a global or a function beside attributes.
+const LINKAGE: [&[u8]; 10] = [
     b"private",
     b"internal",
     b"common",
@@ -136,7 +114,13 @@ fn long_attribute(source: Source<'_>) -> Result<Source<'_>, Stop<'_>>
 pub fn has_attribute(source: Source<'_>) -> bool
     ensures { result ≡ starts (attribute_starts []) (pieces source.entry) }
 {
-    has_word_of(source, &LONG) || has_word(source, b"align") || has_word_of(source, &ATTRIBUTES)
+    if has_word_of(source, &LONG) {
+        return true;
+    }
+    if has_word(source, b"align") {
+        return true;
+    }
+    has_word_of(source, &ATTRIBUTES)
 }
 
 /// An attribute.
@@ -167,7 +151,31 @@ pub fn attributes(source: Source<'_>) -> Result<Source<'_>, Stop<'_>>
 fn has_ignored(source: Source<'_>) -> bool
     ensures { result ≡ starts (attribute_starts linkage_words) (pieces source.entry) }
 {
-    has_word_of(source, &LONG) || has_word(source, b"align") || has_word_of(source, &IGNORED)
+    if has_attribute(source) {
+        return true;
+    }
+    has_word_of(source, &LINKAGE)
+}
+
+fn has_ignored_word(source: Source<'_>) -> bool
+    ensures { result ≡ starts (words (attribute_words ++ linkage_words)) (pieces source.entry) }
+{
+    if has_word_of(source, &ATTRIBUTES) {
+        return true;
+    }
+    has_word_of(source, &LINKAGE)
+}
+
+/// One of the words of attributes and of linkage.
+fn ignored_word(source: Source<'_>) -> Result<Source<'_>, Stop<'_>>
+    ensures { Moves result ((skip (words (attribute_words ++ linkage_words))).reads (pieces source.entry)) }
+{
+    if has_ignored_word(source) {
+        if let Some((_, rest)) = source.next() {
+            return Ok(rest);
+        }
+    }
+    Err(Stop::Refused(false, source))
 }
 
 fn one_ignored(source: Source<'_>) -> Result<Source<'_>, Stop<'_>>
@@ -178,7 +186,7 @@ fn one_ignored(source: Source<'_>) -> Result<Source<'_>, Stop<'_>>
     } else if has_word(source, b"align") {
         alignment(source)
     } else {
-        skip_word_of(source, &IGNORED)
+        ignored_word(source)
     }
 }
 

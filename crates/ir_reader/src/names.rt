@@ -1,6 +1,6 @@
 //! Names, and the texts of strings.
 
-ghost use Rattle.std.specs.Prelude.{◌≡◌, ◌<◌, ◌∷◌, [], length, IfOk, IfSome, MatchOption};
+ghost use Rattle.std.specs.Prelude.{◌≡◌, ◌≤◌, ◌<◌, ◌∷◌, [], length, IfOk, IfSome, MatchOption};
 ghost use Rattle.ir_grammar.specs.Names as spec;
 ghost use Rattle.ir_grammar.specs.Types.{global_name as global_phrase, local_name as local_phrase, label_name as label_phrase};
 ghost use Rattle.ir_reader.specs.Source.{pieces};
@@ -27,36 +27,42 @@ fn hex_value(byte: u8) -> u8
     } else if byte <= 70 {
         byte.saturating_sub(55)
     } else {
-        byte - 87
+        byte.saturating_sub(87)
     }
 }
 
-/// What two hexadecimal digits behind a backslash stand for, and the bytes behind them.
-fn hex_pair(more: &[u8]) -> Option<(u8, &[u8])>
-    ensures { MatchOption result (spec.unescaped (92 ∷ more.now) ≡ 92 ∷ spec.unescaped more.now) (λ x. spec.unescaped (92 ∷ more.now) ≡ x.0 ∷ spec.unescaped x.1.now) }
+/// What a backslash stands for with what is behind it, and the bytes behind that.
+#[tactic(auto, using(crate::proofs::Escapes::escapes))]
+fn escape_of(more: &[u8]) -> (u8, &[u8])
+    ensures value { spec.unescaped (92 ∷ more.now) ≡ result.0 ∷ spec.unescaped result.1.now }
+    ensures within { length result.1.now ≤ length more.now }
 {
-    match more {
-        [second, third, rest @ ..] if is_hex(*second) && is_hex(*third) => Some((
-            16 * hex_value(*second) + hex_value(*third),
-            rest,
-        )),
-        _ => None,
+    let Some((second, rest)) = more.split_first() else {
+        return (b'\\', more);
+    };
+    if *second == b'\\' {
+        return (b'\\', rest);
     }
+    let Some((third, last)) = rest.split_first() else {
+        return (b'\\', more);
+    };
+    if is_hex(*second) && is_hex(*third) {
+        return (16 * hex_value(*second) + hex_value(*third), last);
+    }
+    (b'\\', more)
 }
 
 /// The first byte with its escape undone, and what is behind it.
+#[tactic(auto, using(crate::proofs::Escapes::escapes))]
 fn next_byte(text: &[u8]) -> Option<(u8, &[u8])>
     ensures next { MatchOption result (text.now ≡ []) (λ x. spec.unescaped text.now ≡ x.0 ∷ spec.unescaped x.1.now) }
     ensures shorter { IfSome result (λ x. length x.1.now < length text.now) }
 {
     let (first, more) = text.split_first()?;
-    if *first != b'\\' {
-        return Some((*first, more));
+    if *first == b'\\' {
+        return Some(escape_of(more));
     }
-    match more.split_first() {
-        Some((second, rest)) if *second == b'\\' => Some((b'\\', rest)),
-        _ => Some(hex_pair(more).unwrap_or((b'\\', more))),
-    }
+    Some((*first, more))
 }
 
 /// The text with its escapes undone.
@@ -72,12 +78,13 @@ fn unescaped(alloc: Global, text: &[u8]) -> Result<Vec<u8>, AllocError>
     Ok(found)
 }
 
+#[tactic(auto, using(crate::proofs::Escapes::front_of))]
 fn without_last(text: &[u8]) -> &[u8]
     ensures { result.now ≡ spec.without_last text.now }
 {
-    match text {
-        [] => text,
-        [front @ .., _] => front,
+    match text.split_last() {
+        None => text,
+        Some((_, front)) => front,
     }
 }
 

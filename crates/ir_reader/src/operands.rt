@@ -3,15 +3,16 @@
 ghost use Rattle.std.specs.Prelude.{◌≡◌, ◌≤◌, ◌∷◌, [], true, codes, map, IfOk};
 ghost use Rattle.phrases.specs.Phrase.{one};
 ghost use Rattle.ir_grammar.specs.Tokens.{meaning as meaning_of};
+ghost use Rattle.ir_grammar.specs.Numbers.{fits_offset};
 ghost use Rattle.ir_grammar.specs.Types.{behind_commas, width_in as bits_in};
-ghost use Rattle.ir_grammar.specs.Constants.{const_index as index_phrase, gep_level as level_phrase, gep_global as global_phrase, gep_base as base_phrase, simple_form as form_in, simple_of, operand_of, gep_operand as gep_phrase, operand_where as where_phrase, operand as operand_phrase, operand_in as in_phrase, pointer as pointer_phrase, constant_rows, first_place as place_in};
+ghost use Rattle.ir_grammar.specs.Constants.{placed, const_index as index_phrase, gep_level as level_phrase, gep_global as global_phrase, gep_base as base_phrase, simple_form as form_in, simple_of, operand_of, gep_operand as gep_phrase, operand_where as where_phrase, operand as operand_phrase, operand_in as in_phrase, pointer as pointer_phrase, constant_rows, first_place as place_in};
 ghost use Rattle.ir_reader.specs.Ranges.{fits as fits_in, is_small};
 ghost use Rattle.ir_reader.specs.Source.{piece_of, pieces};
 ghost use Rattle.ir_reader.specs.Gives.{Gives};
 
 use crate::ignored::flags;
 use crate::names::{after_sigil, global_name};
-use crate::numbers::{Range, placed_int, width};
+use crate::numbers::{Range, width};
 use crate::source::{Lexeme, Source};
 use crate::stop::Stop;
 use crate::types::{NESTING, mem_type, width_in};
@@ -24,13 +25,25 @@ use std::alloc::{AllocError, Global};
 
 // ---- constant addresses
 
+/// The number of an index of a constant address, whose number of bits was read.
+fn index_of(source: Source<'_>, width: u8) -> Result<(ConstIndex, Source<'_>), Stop<'_>>
+    ensures { Gives result ((one (placed fits_offset (λ n at. record { width = width; value = n; at = at }))).reads (pieces source.entry)) }
+{
+    if let Some((found, rest)) = source.next() {
+        if let Some(value) = found.int(Range::Offset) {
+            let at = found.at;
+            return Ok((ConstIndex { width, value, at }, rest));
+        }
+    }
+    Err(Stop::Refused(false, source))
+}
+
 /// An index of a constant address.
 fn const_index(source: Source<'_>) -> Result<(ConstIndex, Source<'_>), Stop<'_>>
     ensures { Gives result (index_phrase.reads (pieces source.entry)) }
 {
     let (width, source) = width(source)?;
-    let ((value, at), source) = placed_int(source, Range::Offset)?;
-    Ok((ConstIndex { width, value, at }, source))
+    index_of(source, width)
 }
 
 /// The indices behind commas.

@@ -6,6 +6,7 @@ ghost use Rattle.phrases.specs.Phrase.{one};
 ghost use Rattle.ir_grammar.specs.Tokens.{mark, square, brace, packed_brace};
 ghost use Rattle.ir_grammar.specs.Types.{behind_commas, listed, type_of as type_in, value_type as value_phrase, scalar_of as scalar_in, scalar_type as scalar_phrase, plain_of, array_type as array_phrase, struct_type as struct_phrase, mem_type as mem_phrase, nesting, width_in as bits_in};
 ghost use Rattle.ir_grammar.specs.Instructions.{result_type as result_phrase};
+ghost use Rattle.ir_reader.specs.Parts.{aggregate_or_plain as aggregate_phrase};
 ghost use Rattle.ir_reader.specs.Source.{piece_of, pieces};
 ghost use Rattle.ir_reader.specs.Gives.{Gives};
 
@@ -210,6 +211,27 @@ fn other_fields<'a>(
     Ok((found, rest))
 }
 
+/// A type in memory that may open a level and, within it, so many more.
+#[cycle(types)]
+fn aggregate_or_plain<'a>(
+    alloc: Global,
+    source: Source<'a>,
+    inner: u8,
+) -> Result<(IrType, Source<'a>), Stop<'a>>
+    ensures { Gives result ((aggregate_phrase inner).reads (pieces source.entry)) }
+{
+    if has_mark(source, b"[") {
+        return array_type(alloc, source, inner);
+    }
+    if has_mark(source, b"{") {
+        return struct_type(alloc, source, b"{", b"}", false, inner);
+    }
+    if has_mark(source, b"<{") {
+        return struct_type(alloc, source, b"<{", b"}>", true, inner);
+    }
+    plain(alloc, source)
+}
+
 /// A type in memory that opens at most so many levels.
 #[cycle(types)]
 #[tactic(auto, unfolding(ir_grammar::specs::Types::mem_type))]
@@ -220,17 +242,14 @@ pub fn mem_type<'a>(
 ) -> Result<(IrType, Source<'a>), Stop<'a>>
     ensures { Gives result ((mem_phrase levels).reads (pieces source.entry)) }
 {
-    if has_odd_integer_type(source) || levels == 0 && has_opening(source) {
-        Err(Stop::Refused(true, source))
-    } else if levels == 0 {
-        plain(alloc, source)
-    } else if has_mark(source, b"[") {
-        array_type(alloc, source, levels - 1)
-    } else if has_mark(source, b"{") {
-        struct_type(alloc, source, b"{", b"}", false, levels - 1)
-    } else if has_mark(source, b"<{") {
-        struct_type(alloc, source, b"<{", b"}>", true, levels - 1)
-    } else {
-        plain(alloc, source)
+    if has_odd_integer_type(source) {
+        return Err(Stop::Refused(true, source));
     }
+    if levels > 0 {
+        return aggregate_or_plain(alloc, source, levels - 1);
+    }
+    if has_opening(source) {
+        return Err(Stop::Refused(true, source));
+    }
+    plain(alloc, source)
 }

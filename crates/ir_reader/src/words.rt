@@ -1,7 +1,7 @@
 //! Which token comes next, and going past it.
 
 ghost use Rattle.std.specs.Prelude.{◌≡◌, ◌==◌, ◌∷◌, [], map};
-ghost use Rattle.phrases.specs.Piece.{same_text, any, matches, starts};
+ghost use Rattle.phrases.specs.Piece.{same_text, any, matches, among, starts};
 ghost use Rattle.phrases.specs.Phrase.{got, one, skip as skip_phrase, place, skip_many};
 ghost use Rattle.ir_grammar.specs.Tokens.{number_of as number, word, mark, words as words_of, meaning as meaning_of, all_but, are_digits as all_digits, names_integer as is_integer_name, is_odd as is_odd_name, integer_type, odd_integer_type};
 ghost use Rattle.ir_reader.specs.Source.{piece_of, pieces};
@@ -63,6 +63,18 @@ impl<'a> Lexeme<'a> {
         ensures { result ≡ matches (mark text.now) (piece_of self.entry) }
     {
         is_kind(self.kind, TokenKind::Punct) && is_text(self.text, text)
+    }
+
+    /// Whether it is no Bad token and not the mark of this text.
+    #[tactic(auto, using(crate::proofs::Tables::or_false))]
+    fn is_other(self, text: &[u8]) -> bool
+        ensures { result ≡ among (all_but text.now) (piece_of self.entry) }
+    {
+        match self.kind {
+            TokenKind::Bad => false,
+            TokenKind::Punct => !is_text(self.text, text),
+            _ => true,
+        }
     }
 
     /// Whether it is the name of an integer type, of any width.
@@ -228,11 +240,7 @@ pub fn has_other(source: Source<'_>, text: &[u8]) -> bool
 {
     match source.next() {
         None => false,
-        Some((found, _)) => match found.kind {
-            TokenKind::Bad => false,
-            TokenKind::Punct => !is_text(found.text, text),
-            _ => true,
-        },
+        Some((found, _)) => found.is_other(text),
     }
 }
 
