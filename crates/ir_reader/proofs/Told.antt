@@ -1,15 +1,22 @@
 -- What the answer says of the text decides what it is where the text is read or refused.
-use Rattle.std.proofs.Common.{◌≡◌, ℕ, Bool, List, Option, Some, None, Result, Ok, Err, IfOk, IfErr, refl, sym, ap, subst, ◌∙◌}
+use Rattle.std.proofs.Common.{◌≡◌, ℕ, ◌≤◌, Bool, false, List, [], ◌∷◌, length, Option, Some, None, Result, Ok, Err, IfOk, IfErr, refl, sym, ap, subst, ◌∙◌, arith}
 use Rattle.ir_lexer.specs.declared.token.Token.{Token}
 use Rattle.ir_lexer.proofs.Lexed.{has_one_list}
 use Rattle.ir_tree.specs.declared.module.IrTree.{IrTree}
+use Rattle.ir_lexer.specs.Lexing.{AreTokens}
 use Rattle.phrases.specs.Piece.{Piece}
+use Rattle.phrases.specs.Phrase.{got, refused}
+use Rattle.phrases.specs.Reading.{to_the_end}
+use Rattle.phrases.proofs.Wholes.{is_derived, is_refused}
 use Rattle.ir_grammar.specs.Tokens.{seen}
+use Rattle.ir_grammar.specs.Module.{module_text}
 use Rattle.ir_grammar.specs.Laws.{IsModule, IsRefused}
 use Rattle.ir_grammar.specs.Numbering.{numbered}
+use Rattle.ir_grammar.proofs.ModuleExact.{module_exact}
 use Rattle.ir_grammar.proofs.Decided.{one_tree, never_both, once}
 use Rattle.ir_reader.specs.declared.text.SyntaxError.{SyntaxError}
 use Rattle.ir_reader.specs.declared.text.SyntaxError.TheVariants as errors
+use Rattle.ir_reader.specs.Refusing.{Tells, TellsOf}
 use Rattle.ir_reader.specs.Reading.{IsReadAs, IsRefusedAt, place_of, unsupported_text, Says, IsTree, IsRefusal}
 
 -- a text is read as one tree
@@ -45,3 +52,29 @@ refusal_told bytes (Ok found) p q at what h = not_refused bytes found at what p 
 refusal_told bytes (Err (errors.Syntax place)) p q at what h = let same = same_refusal bytes place at None what q h in (same.0, sym same.1)
 refusal_told bytes (Err (errors.Unsupported place text)) p q at what h = let same = same_refusal bytes place at (Some text) what q h in (same.0, sym same.1)
 refusal_told bytes (Err errors.Memory) p q at what h = tt
+
+-- ---- from what was read
+
+pub read_whole : (ts rest : List Piece) (tree : IrTree) → module_text.reads ts ≡ got tree rest → length rest ≡ 0 → IsModule tree ts
+read_whole ts [] tree e h = is_derived module_text _ _ _ _ module_exact ts tree [] (ap to_the_end e)
+read_whole ts (t ∷ rest) tree e h = absurd (omega arith)
+
+told_of : (bytes : List ℕ) (ts rest : List Piece) (named : Bool) (e : SyntaxError) → IsRefused ts rest named → Tells bytes named rest e → TellsOf bytes ts e
+told_of bytes ts rest named (errors.Syntax at) r t = (rest, named, r, t)
+told_of bytes ts rest named (errors.Unsupported at what) r t = (rest, named, r, t)
+told_of bytes ts rest named errors.Memory r t = tt
+
+pub trailing : (bytes : List ℕ) (ts rest : List Piece) (tree : IrTree) (e : SyntaxError) → module_text.reads ts ≡ got tree rest → 1 ≤ length rest → Tells bytes false rest e → TellsOf bytes ts e
+trailing bytes ts [] tree e q h t = absurd (omega arith)
+trailing bytes ts (p ∷ rest) tree e q h t = told_of bytes ts (p ∷ rest) false e (is_refused module_text _ _ _ _ module_exact ts false (p ∷ rest) (ap to_the_end q)) t
+
+pub stopped : (bytes : List ℕ) (ts rest : List Piece) (named : Bool) (e : SyntaxError) → module_text.reads ts ≡ refused named rest → Tells bytes named rest e → TellsOf bytes ts e
+stopped bytes ts rest named e q t = told_of bytes ts rest named e (is_refused module_text _ _ _ _ module_exact ts named rest (ap to_the_end q)) t
+
+pub says : (bytes : List ℕ) (tokens : List Token) (e : SyntaxError) → AreTokens bytes tokens → TellsOf bytes (seen bytes tokens) e → Says bytes e
+says bytes tokens (errors.Syntax at) lexed t = record { tokens = tokens; lexed = lexed; rest = t.0; named = t.1; is_refused = t.2; place = t.3.0; what = sym t.3.1 }
+says bytes tokens (errors.Unsupported at what) lexed t = record { tokens = tokens; lexed = lexed; rest = t.0; named = t.1; is_refused = t.2; place = t.3.0; what = sym t.3.1 }
+says bytes tokens errors.Memory lexed t = tt
+
+pub read_as : (bytes : List ℕ) (tokens : List Token) (spelled tree : IrTree) → AreTokens bytes tokens → IsModule spelled (seen bytes tokens) → tree ≡ numbered spelled → IsReadAs bytes tree
+read_as bytes tokens spelled tree lexed m e = record { tokens = tokens; lexed = lexed; spelled = spelled; is_module = m; numbers = e }

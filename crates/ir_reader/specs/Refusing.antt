@@ -1,10 +1,21 @@
 -- What an error says of tokens that are refused, whatever source they come from.
 use Rattle.std.specs.Prelude.{◌≡◌, ℕ, Bool, List, Some, None}
-use Rattle.phrases.specs.Piece.{Piece}
+use Rattle.ir_lexer.specs.declared.token.TokenKind.TheVariants as kinds
+use Rattle.phrases.specs.Piece.{Piece, Class, such}
+use Rattle.ir_grammar.specs.Tokens.{number_of}
+use Rattle.ir_grammar.specs.Unsupported.{is_wide_integer, is_hash_name}
 use Rattle.ir_grammar.specs.Laws.{IsRefused}
 use Rattle.ir_reader.specs.declared.text.SyntaxError.{SyntaxError}
 use Rattle.ir_reader.specs.declared.text.SyntaxError.TheVariants as errors
 use Rattle.ir_reader.specs.Reading.{place_of, unsupported_text}
+
+-- an integer type of no bits, or of more than 64
+abbrev pub wide_integer : Class
+wide_integer = record { kind = number_of kinds.Word; texts = such is_wide_integer }
+
+-- `#` with a name behind it
+abbrev pub hash_name : Class
+hash_name = record { kind = number_of kinds.Punct; texts = such is_hash_name }
 
 -- the place of the first token that is left, and its text where it is unsupported
 abbrev pub Tells : List ℕ → Bool → List Piece → SyntaxError → Type 0

@@ -17,5 +17,6 @@ pub mod entities;
 pub mod lines;
 pub mod numbering;
 pub mod operations;
+mod refusing;
 pub mod terminators;
 pub mod text;

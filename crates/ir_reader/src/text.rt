@@ -3,12 +3,20 @@
 ghost use Rattle.std.specs.Prelude.{◌<◌, ◌^◌, ℕ, List, Option, length, IfOk, IfErr};
 ghost use Rattle.ir_lexer.specs.Lexing.{AreTokens};
 ghost use Rattle.ir_tree.specs.declared.module.IrTree.{IrTree};
+ghost use Rattle.ir_grammar.specs.Tokens.{seen};
+ghost use Rattle.ir_grammar.specs.Laws.{IsModule};
+ghost use Rattle.ir_reader.specs.Refusing.{TellsOf};
 ghost use Rattle.ir_reader.specs.Reading.{IsReadAs, IsRefusedAt, Says, IsTree, IsRefusal};
 
+use crate::entities::module;
+use crate::numbering::numbered;
+use crate::refusing::refusal;
+use crate::source::Source;
+use crate::stop::Stop;
 use ir_lexer::token::Token;
 use ir_tree::module::IrTree;
 use plain_list::Sequence;
-use std::alloc::Global;
+use std::alloc::{AllocError, Global};
 use std::fmt;
 use thiserror::Error;
 
@@ -32,6 +40,22 @@ impl fmt::Debug for SyntaxError {
     }
 }
 
+/// The tree of the tokens as it is written.
+fn spelled(alloc: Global, bytes: &[u8], tokens: &[Token]) -> Result<IrTree, SyntaxError>
+    requires { length bytes.now < 2 ^ 32 }
+    ensures tree { IfOk result (λ tree. IsModule tree (seen bytes.now tokens.now)) }
+    ensures error { IfErr result (λ e. TellsOf bytes.now (seen bytes.now tokens.now) e) }
+{
+    match module(alloc, Source { bytes, tokens }) {
+        Ok((tree, rest)) => match rest.tokens {
+            [] => Ok(tree),
+            _ => Err(refusal(alloc, bytes, rest, false)),
+        },
+        Err(Stop::Refused(named, rest)) => Err(refusal(alloc, bytes, rest, named)),
+        Err(Stop::Memory) => Err(SyntaxError::Memory),
+    }
+}
+
 /// The tree of a module, from its text and the tokens that `lex` gave for it. What the text leaves unnamed has its number.
 ///
 /// # Errors
@@ -49,5 +73,11 @@ pub fn read(alloc: Global, bytes: &[u8], tokens: &[Token]) -> Result<IrTree, Syn
     // A text that is no module is refused.
     ensures refused { (at : ℕ) (unsupported : Option (List ℕ)) → IsRefusedAt bytes.now at unsupported → IsRefusal at unsupported result }
 {
-    Err(SyntaxError::Memory)
+    match spelled(alloc, bytes, tokens) {
+        Ok(tree) => match numbered(alloc, tree) {
+            Ok(tree) => Ok(tree),
+            Err(AllocError) => Err(SyntaxError::Memory),
+        },
+        Err(e) => Err(e),
+    }
 }
