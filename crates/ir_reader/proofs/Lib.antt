@@ -1,5 +1,6 @@
 pub mod Gather
 pub mod Told
+pub mod Parameters
 pub mod Digits
 pub mod Escapes
 pub mod Tables

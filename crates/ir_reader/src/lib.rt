@@ -20,3 +20,6 @@ pub mod operations;
 mod refusing;
 pub mod terminators;
 pub mod text;
+
+#[cfg(test)]
+mod tests;

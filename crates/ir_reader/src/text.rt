@@ -56,6 +56,22 @@ fn spelled(alloc: Global, bytes: &[u8], tokens: &[Token]) -> Result<IrTree, Synt
     }
 }
 
+/// The tree with its numbers, or what is told of the refusal.
+fn answer(alloc: Global, bytes: &[u8], tokens: &[Token]) -> Result<IrTree, SyntaxError>
+    requires short { length bytes.now < 2 ^ 32 }
+    requires lexed { AreTokens bytes.now tokens.now }
+    ensures tree { IfOk result (λ tree. IsReadAs bytes.now tree) }
+    ensures error { IfErr result (λ e. Says bytes.now e) }
+{
+    match spelled(alloc, bytes, tokens) {
+        Ok(tree) => match numbered(alloc, tree) {
+            Ok(tree) => Ok(tree),
+            Err(AllocError) => Err(SyntaxError::Memory),
+        },
+        Err(e) => Err(e),
+    }
+}
+
 /// The tree of a module, from its text and the tokens that `lex` gave for it. What the text leaves unnamed has its number.
 ///
 /// # Errors
@@ -73,11 +89,5 @@ pub fn read(alloc: Global, bytes: &[u8], tokens: &[Token]) -> Result<IrTree, Syn
     // A text that is no module is refused.
     ensures refused { (at : ℕ) (unsupported : Option (List ℕ)) → IsRefusedAt bytes.now at unsupported → IsRefusal at unsupported result }
 {
-    match spelled(alloc, bytes, tokens) {
-        Ok(tree) => match numbered(alloc, tree) {
-            Ok(tree) => Ok(tree),
-            Err(AllocError) => Err(SyntaxError::Memory),
-        },
-        Err(e) => Err(e),
-    }
+    answer(alloc, bytes, tokens)
 }

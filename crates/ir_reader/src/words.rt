@@ -287,7 +287,7 @@ impl<'a> Lexeme<'a> {
 
 // ---- names of integer types
 
-fn are_digits(text: &[u8]) -> bool
+pub fn are_digits(text: &[u8]) -> bool
     ensures { result ≡ all_digits text.now }
 {
     for byte in text {
