@@ -68,9 +68,13 @@ for mebibytes in 1 4 16; do
     lex=$(spent "$program" lex "$file")
     read=$(spent "$program" read "$file")
     other=0
-    if command -v llvm-as >/dev/null; then
-        other=$(spent llvm-as -o "$work/out.bc" "$file")
-    fi
+    # Older ones need to be told that pointers have no types of their own.
+    for assembler in "llvm-as" "llvm-as -opaque-pointers"; do
+        if $assembler -o "$work/out.bc" "$file" 2>/dev/null; then
+            other=$(spent $assembler -o "$work/out.bc" "$file")
+            break
+        fi
+    done
     awk -v keep="$keep" -v lex="$lex" -v read="$read" -v other="$other" -v bytes="$(stat -c %s "$file")" -v m="$mebibytes" -v last="${last:-0}" 'BEGIN {
         l = lex - keep; r = read - keep; if (l < 1) l = 1; if (r < 1) r = 1;
         printf "%d MiB: tokens %.1f MB/s, tokens and tree %.1f MB/s", m, bytes / l, bytes / r;

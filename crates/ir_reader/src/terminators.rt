@@ -232,7 +232,7 @@ pub fn blocks<'a>(alloc: Global, source: Source<'a>) -> Result<(Sequence<Block>,
 {
     let mut found = Sequence::new(alloc);
     let mut rest = source;
-    'blocks: while has_block(rest) {
+    'turns: while has_block(rest) {
         let (next, after) = block(alloc, rest)?;
         found.push(next)?;
         rest = after;

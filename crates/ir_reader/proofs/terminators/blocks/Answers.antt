@@ -6,10 +6,10 @@ use Rattle.ir_reader.specs.Source.{pieces}
 use Rattle.ir_reader.proofs.Turns.{fewer, item_turn, item_shrinks}
 use Rattle.ir_reader.proofs.terminators.blocks.Goals as goal
 
-pub blocks-smaller : goal.blocks-smaller
-blocks-smaller c = fewer c.blocks.rest c.in_ok-next.after (item_shrinks (block_starts) (comma ∷ []) block block_exact (pieces c.blocks.rest) c.in_ok-next.next (pieces c.in_ok-next.after) c.in_ok-next.ensures)
+pub turns-smaller : goal.turns-smaller
+turns-smaller c = fewer c.turns.rest c.in_ok-next.after (item_shrinks (block_starts) (comma ∷ []) block block_exact (pieces c.turns.rest) c.in_ok-next.next (pieces c.in_ok-next.after) c.in_ok-next.ensures)
 
-pub blocks-preserved : goal.blocks-preserved
-blocks-preserved c =
-    item_turn (block_starts) (comma ∷ []) block block_exact c.blocks.found c.push.new.self (pieces c.blocks.rest) (pieces c.in_ok-next.after) c.in_ok-next.next _ (sym c.has_block.ensures ∙ c.blocks-test.true) c.in_ok-next.ensures
-    c.in_ok-push.ensures.ok c.blocks.invariant
+pub turns-preserved : goal.turns-preserved
+turns-preserved c =
+    item_turn (block_starts) (comma ∷ []) block block_exact c.turns.found c.push.new.self (pieces c.turns.rest) (pieces c.in_ok-next.after) c.in_ok-next.next _ (sym c.has_block.ensures ∙ c.turns-test.true) c.in_ok-next.ensures
+    c.in_ok-push.ensures.ok c.turns.invariant

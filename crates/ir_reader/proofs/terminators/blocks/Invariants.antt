@@ -5,8 +5,8 @@ use Rattle.phrases.specs.Reading.{with_front}
 use Rattle.ir_reader.specs.Source.{pieces}
 use Rattle.ir_reader.proofs.terminators.blocks.Given as goal
 
-abbrev pub invariant-blocks : goal.invariant-blocks
-invariant-blocks l = with_front l.found ((many block_starts block).reads (pieces l.rest)) ≡ (many block_starts block).reads (pieces l.source)
+abbrev pub invariant-turns : goal.invariant-turns
+invariant-turns l = with_front l.found ((many block_starts block).reads (pieces l.rest)) ≡ (many block_starts block).reads (pieces l.source)
 
-abbrev pub decreases-blocks : goal.decreases-blocks
-decreases-blocks l = length l.rest.tokens.now
+abbrev pub decreases-turns : goal.decreases-turns
+decreases-turns l = length l.rest.tokens.now
