@@ -1,3 +1,5 @@
+pub mod Gather
+pub mod Told
 pub mod Digits
 pub mod Escapes
 pub mod Tables

@@ -11,3 +11,12 @@ pub mod source;
 pub mod stop;
 pub mod types;
 pub mod words;
+
+pub mod calls;
+pub mod entities;
+pub mod lines;
+pub mod numbering;
+pub mod operations;
+mod refusing;
+pub mod terminators;
+pub mod text;

@@ -1,0 +1,7 @@
+use Rattle.ir_reader.proofs.calls.indices.Goals as goal
+
+pub commas-smaller : goal.commas-smaller
+commas-smaller c = ?
+
+pub commas-preserved : goal.commas-preserved
+commas-preserved c = ?
