@@ -287,7 +287,8 @@ impl<'a> Lexeme<'a> {
 
 // ---- names of integer types
 
-fn are_digits(text: &[u8]) -> bool
+/// Whether each byte is a decimal digit.
+pub fn are_digits(text: &[u8]) -> bool
     ensures { result ≡ all_digits text.now }
 {
     for byte in text {
