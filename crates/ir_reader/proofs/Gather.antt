@@ -20,7 +20,7 @@ abbrev pub gathered : {A X : Type 0} → (X → List A → X) → X → Outcome 
 gathered add x read = and_then read (λ xs rest. got (add x xs) rest)
 
 module _ {S A X : Type 0} (first more : List Class) (item : S → Phrase A) (next : S → A → S) (P : (u : S) → Exact (item u) first false more [])
-         (add : X → List A → X) (none : (x : X) → add x [] ≡ x) (later : (x : X) (a : A) (xs : List A) → add (add x (a ∷ [])) xs ≡ add x (a ∷ xs)) where
+    (add : X → List A → X) (none : (x : X) → add x [] ≡ x) (later : (x : X) (a : A) (xs : List A) → add (add x (a ∷ [])) xs ≡ add x (a ∷ xs)) where
   abbrev all : S → Phrase (List A)
   all u = many_from first item next u
 

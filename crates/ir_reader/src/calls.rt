@@ -75,10 +75,7 @@ fn index_or_attached<'a>(
 }
 
 /// Indices and attachments, each behind a comma.
-fn indices<'a>(
-    alloc: Global,
-    source: Source<'a>,
-) -> Result<(Sequence<Index>, Source<'a>), Stop<'a>>
+fn indices<'a>(alloc: Global, source: Source<'a>) -> Result<(Sequence<Index>, Source<'a>), Stop<'a>>
     ensures { Gives result ((items_and_after (integer_type ∷ []) index_phrase).reads (pieces source.entry)) }
 {
     let mut found = Sequence::new(alloc);

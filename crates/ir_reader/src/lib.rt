@@ -2,24 +2,22 @@
 //! gives.
 #![tactic(auto)]
 
+pub mod calls;
 pub mod constants;
+pub mod entities;
 pub mod ignored;
+pub mod lines;
 pub mod names;
+pub mod numbering;
 pub mod numbers;
 pub mod operands;
-pub mod source;
-pub mod stop;
-pub mod types;
-pub mod words;
-
-pub mod calls;
-pub mod entities;
-pub mod lines;
-pub mod numbering;
 pub mod operations;
 mod refusing;
+pub mod source;
+pub mod stop;
 pub mod terminators;
-pub mod text;
-
 #[cfg(test)]
 mod tests;
+pub mod text;
+pub mod types;
+pub mod words;

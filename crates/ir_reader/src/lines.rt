@@ -17,7 +17,8 @@ use crate::source::Source;
 use crate::stop::Stop;
 use crate::types::{scalar_type, value_type};
 use crate::words::{
-    has_kind, has_mark, has_word, has_word_of, place_of_word, place_of_word_of, skip_mark, skip_word,
+    has_kind, has_mark, has_word, has_word_of, place_of_word, place_of_word_of, skip_mark,
+    skip_word,
 };
 use ir_lexer::token::TokenKind;
 use ir_tree::instructions::{Incoming, Instruction, Operation, Phi};
@@ -168,11 +169,7 @@ fn incomings<'a>(
 
 /// A phi that sets a register.
 #[tactic(auto, unfolding(ir_grammar::specs::Instructions::phi))]
-fn phi<'a>(
-    alloc: Global,
-    source: Source<'a>,
-    register: Name,
-) -> Result<(Phi, Source<'a>), Stop<'a>>
+fn phi<'a>(alloc: Global, source: Source<'a>, register: Name) -> Result<(Phi, Source<'a>), Stop<'a>>
     ensures { GivesAs a_phi result ((phi_phrase register).reads (pieces source.entry)) }
 {
     let source = skip_word(source, b"phi")?;

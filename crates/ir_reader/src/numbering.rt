@@ -112,10 +112,7 @@ fn has_result(operation: &Operation) -> bool
 {
     match operation {
         Operation::Store { .. } => false,
-        Operation::Call {
-            result: None,
-            ..
-        } => false,
+        Operation::Call { result: None, .. } => false,
         _ => true,
     }
 }

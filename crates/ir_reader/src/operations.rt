@@ -95,7 +95,15 @@ pub fn cast<'a>(alloc: Global, source: Source<'a>) -> Result<(Operation, Source<
     let source = skip_word(source, b"to")?;
     let (to, source) = width(source)?;
     let source = after(source)?;
-    Ok((Operation::Cast { op, from, value, to }, source))
+    Ok((
+        Operation::Cast {
+            op,
+            from,
+            value,
+            to,
+        },
+        source,
+    ))
 }
 
 /// A type and an operand of it.

@@ -227,7 +227,10 @@ pub fn has_block(source: Source<'_>) -> bool
 }
 
 /// Any number of blocks.
-pub fn blocks<'a>(alloc: Global, source: Source<'a>) -> Result<(Sequence<Block>, Source<'a>), Stop<'a>>
+pub fn blocks<'a>(
+    alloc: Global,
+    source: Source<'a>,
+) -> Result<(Sequence<Block>, Source<'a>), Stop<'a>>
     ensures { Gives result ((many block_starts block_phrase).reads (pieces source.entry)) }
 {
     let mut found = Sequence::new(alloc);

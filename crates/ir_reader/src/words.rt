@@ -287,6 +287,7 @@ impl<'a> Lexeme<'a> {
 
 // ---- names of integer types
 
+/// Whether each byte is a decimal digit.
 pub fn are_digits(text: &[u8]) -> bool
     ensures { result ≡ all_digits text.now }
 {
