@@ -1,26 +1,34 @@
 -- What follows from what a status says.
-use Rattle.std.proofs.Common.{◌≡◌, ℕ, ◌<◌, ◌≤◌, List, length, Option, Some, None, Result, Ok, Err, IfOk, IfSome, String, string_bytes, refl, sym, ◌∙◌, ap, subst, inl, inr, arith}
+use Rattle.std.proofs.Common.{◌≡◌, ℕ, ◌<◌, ◌≤◌, List, [], ◌∷◌, length, Option, Some, None, Result, Ok, Err, IfOk, IfSome, String, string_bytes, refl, sym, ◌∙◌, ap, subst, inl, inr, arith}
 use Rattle.std.specs.declared.alloc.Global.{Global}
 use Rattle.std.specs.declared.alloc.AllocError.{AllocError}
+use Rattle.flat_ir.specs.declared.program.ProgramData.{ProgramData}
+use Rattle.explorer.specs.Exploring.{Found}
+use Rattle.explorer.proofs.Walking.{are-right}
 use Rattle.chop_outside.specs.Reading.{Named, Holds, contents_of}
 use Rattle.chop_outside.specs.Writing.{SinkState}
 use Rattle.chop_top.specs.declared.top.Answer.{Answer}
 use Rattle.chop_top.specs.declared.top.Status.{Status}
 use Rattle.chop_top.specs.declared.top.Status.TheVariants.{Done, Usage, Refused, Memory, ReadFault, WriteFault}
 use Rattle.chop_top.specs.Words.{file_of}
-use Rattle.chop_top.specs.ModuleText.{Reads, returning}
-use Rattle.chop_top.specs.Explored.{explored}
-use Rattle.chop_top.specs.Report.{text}
-use Rattle.chop_top.specs.Outcomes.{limit, plain, Reading, IsRefusalOf, IsTooLarge, OfFile, IsAccepted, IsComplete, Outcome, Judged, text_or_memory}
-use Rattle.chop_top.proofs.Returning.{are_right}
+use Rattle.chop_top.specs.Accepted.{Reads}
+use Rattle.chop_top.specs.Outcomes.{limit, plain, Reading, IsReport, IsRefusalOf, IsTooLarge, OfFile, IsAccepted, IsComplete, Outcome, Judged, text_or_memory}
+use Rattle.chop_top.proofs.Numbers.{numbers-of}
 
--- the report of a constant is that of the program that the bytes are the text of
-pub judged-report : (bytes : List ℕ) (bits : ℕ) (written : Result (String Global) AllocError) (answer : Answer) → Reads bytes (returning bits) → IfOk written (λ w. string_bytes w ≡ text plain (explored (returning bits))) → answer ≡ text_or_memory Done written → Judged answer bytes
-judged-report bytes bits (Ok w) answer reads report is =
-    let P : Answer → Type 0 = λ a. Judged a bytes in
-    subst P (sym is) (record { program = returning bits; reads = reads; right = are_right bits 0; report = report })
-judged-report bytes bits (Err e) answer reads report is =
-    let P : Answer → Type 0 = λ a. Judged a bytes in subst P (sym is) tt
+-- the report of the program that the bytes are the text of
+pub judged-report : (bytes : List ℕ) (p : ProgramData) (written : Result (String Global) AllocError) (answer : Answer) → Reads bytes p → IfOk written (λ w. IsReport p (string_bytes w)) → answer ≡ text_or_memory Done written → Judged answer bytes
+judged-report bytes p (Ok w) answer reads report is =
+    let found : Found = record { ending = report.0.ending; path = report.1.0; left = report.0.left } in
+    subst (λ a. Judged a bytes) (sym is) (record {
+      program = p;
+      reads = reads;
+      leaves = found ∷ [];
+      tasks = 1;
+      explores = report.1.1;
+      right = are-right p plain.steps plain.input 1 (found ∷ []) (numbers-of reads.tree p reads.resolves) report.1.1;
+      report = report.2;
+    })
+judged-report bytes p (Err e) answer reads report is = subst (λ a. Judged a bytes) (sym is) tt
 
 -- a file holds what it is told to hold
 told-holds : (named : Option Named) (name read bytes : List ℕ) → Holds named name read → contents_of named name ≡ Some bytes → read ≡ bytes

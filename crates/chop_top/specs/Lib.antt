@@ -1,12 +1,4 @@
-pub mod Explored
-pub mod Lexing
-pub mod ModuleText
-pub mod Names
-pub mod Numbers
+pub mod Accepted
 pub mod Outcomes
-pub mod Parsing
 pub mod Report
-pub mod Scanning
-pub mod Tokens
-pub mod Unquoting
 pub mod Words

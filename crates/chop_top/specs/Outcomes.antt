@@ -1,19 +1,22 @@
 -- What each status of the top call says.
-use Rattle.std.specs.Prelude.{◌≡◌, ◌⊎◌, ℕ, ◌<◌, ◌≤◌, List, [], ◌∷◌, ◌++◌, length, codes, Some, None, IfSome, string_bytes, String, Result, Ok, Err}
+use Rattle.std.specs.Prelude.{◌≡◌, ◌⊎◌, ℕ, ◌<◌, ◌≤◌, List, [], ◌∷◌, ◌++◌, length, map, codes, Some, None, IfSome, string_bytes, String, Result, Ok, Err}
 use Rattle.std.specs.declared.alloc.Global.{Global}
 use Rattle.std.specs.declared.alloc.AllocError.{AllocError}
 use Rattle.flat_ir.specs.declared.program.ProgramData.{ProgramData}
 use Rattle.chop_outside.specs.Reading.{FilesState, ReadWhole, contents_of}
 use Rattle.chop_outside.specs.Writing.{SinkState, Appends, WrotePrefix}
-use Rattle.chop_top.specs.declared.exploring.Options.{Options}
+use Rattle.explorer.specs.Exploring.{Found, Explores, first_state}
+use Rattle.explorer.specs.Leads.{Gives}
+use Rattle.explorer.specs.Leaves.{AreRight}
+use Rattle.explorer.specs.declared.exploring.Leaf.{Leaf}
+use Rattle.chop_top.specs.declared.options.Options.{Options}
 use Rattle.chop_top.specs.declared.top.Status.{Status}
 use Rattle.chop_top.specs.declared.top.Status.TheVariants.{Done, Usage, Refused, Memory, ReadFault, WriteFault}
 use Rattle.chop_top.specs.declared.top.Answer.{Answer}
 use Rattle.chop_top.specs.declared.top.Answer.TheVariants as answer
 use Rattle.chop_top.specs.Words.{file_of, usage_line}
-use Rattle.chop_top.specs.ModuleText.{Reads}
-use Rattle.chop_top.specs.Explored.{explored, AreRight}
-use Rattle.chop_top.specs.Report.{text}
+use Rattle.chop_top.specs.Accepted.{Reads}
+use Rattle.chop_top.specs.Report.{text, leaf_of}
 
 -- the most bytes that are read
 abbrev pub limit : ℕ
@@ -34,8 +37,11 @@ pub record Reading : Type 0 where
 pub record IsReportOf (bytes written : List ℕ) : Type 0 where
   pub program : ProgramData
   pub reads : Reads bytes program
-  pub right : AreRight program plain.input (explored program)
-  pub report : written ≡ text plain (explored program)
+  pub leaves : List Found
+  pub tasks : ℕ
+  pub explores : Explores program (first_state program plain.steps) leaves tasks
+  pub right : AreRight program plain.input leaves
+  pub report : written ≡ text plain (map leaf_of leaves)
 
 -- the bytes are no text of a program that is built by now
 pub record IsRefusalOf (bytes written : List ℕ) : Type 0 where
@@ -135,6 +141,10 @@ pub record IsAccepted (r : Reading) : Type 0 where
 abbrev pub IsComplete : Status → Reading → SinkState → SinkState → Type 0
 IsComplete status r old new =
     IsAccepted r → r.after.faults ≡ r.before.faults → new.faults ≡ old.faults → (status ≡ Done) ⊎ (status ≡ Memory)
+
+-- a text is the report of a program, by its one leaf
+abbrev pub IsReport : ProgramData → List ℕ → Type 0
+IsReport p written = (leaf : Leaf) × Gives p plain.steps leaf × (written ≡ text plain (leaf ∷ []))
 
 abbrev pub text_or_memory : Status → Result (String Global) AllocError → Answer
 text_or_memory status (Ok written) = answer.Text status written

@@ -1,13 +1,9 @@
 //! The top call: from the words to the bytes that are written.
 #![tactic(auto)]
 
-mod exploring;
-mod module_text;
-mod names;
-mod numbers;
+mod accepting;
+mod options;
 mod report;
-mod resolving;
-mod tokens;
 mod top;
 mod words;
 

@@ -1,16 +1,14 @@
 //! The top call.
-ghost use Rattle.std.specs.Prelude.{◌≡◌, ◌<◌, ◌-◌, ◌^◌, None, map, string_bytes, codes, ◌++◌, ◌∷◌, [], IfOk};
-ghost use Rattle.chop_top.specs.Explored.{explored};
-ghost use Rattle.chop_top.specs.ModuleText.{returning as program_returning};
-ghost use Rattle.chop_top.specs.Report.{text};
-ghost use Rattle.chop_top.specs.Outcomes.{Reading, Outcome, IsComplete, Answered, Judged, Text, plain, text_or_memory};
+ghost use Rattle.std.specs.Prelude.{◌≡◌, ◌<◌, ◌≤◌, ◌-◌, ◌^◌, None, map, length, string_bytes, codes, ◌++◌, ◌∷◌, [], IfOk};
+ghost use Rattle.chop_top.specs.Outcomes.{Reading, Outcome, IsComplete, Answered, Judged, Text, limit, IsReport, text_or_memory};
 
-use crate::exploring::{Options, explored};
-use crate::module_text::constant_of;
+use crate::accepting::program_of;
+use crate::options::Options;
 use crate::report::report;
-use crate::resolving::returning;
 use crate::words::{file_of, usage_line};
 use chop_outside::{Fault, Files, Gate, ReadError, Sink, read_whole, write_whole};
+use explorer::explore;
+use flat_ir::Program;
 use std::alloc::{AllocError, Global};
 use std::sync::Wait;
 use std::thread::Threads;
@@ -49,13 +47,12 @@ fn refusal(alloc: Global, name: &str) -> Result<String, AllocError>
     format!(in alloc; "refused {name}\n")
 }
 
-// The report of a program whose main returns these bits.
-fn report_of(alloc: Global, bits: u64) -> Result<String, AllocError>
-    requires { bits < 2 ^ 32 }
-    ensures { IfOk result (λ written. string_bytes written ≡ text plain (explored (program_returning bits))) }
+// The report of a program.
+fn report_of(alloc: Global, program: &Program) -> Result<String, AllocError>
+    ensures { IfOk result (λ written. IsReport program.now (string_bytes written)) }
 {
-    let program = returning(alloc, bits)?;
-    report(alloc, &PLAIN, &[explored(&program)])
+    let leaf = explore(alloc, program, PLAIN.steps)?;
+    report(alloc, &PLAIN, &[leaf])
 }
 
 // A text to write, or nothing where memory ran out.
@@ -70,10 +67,11 @@ fn text_or_memory(status: Status, written: Result<String, AllocError>) -> Answer
 
 // What the bytes of a file come to.
 fn judged(alloc: Global, bytes: &[u8]) -> Answer
+    requires { length bytes.now ≤ limit }
     ensures { Judged result bytes.now }
 {
-    match constant_of(alloc, bytes) {
-        Ok(Some(bits)) => text_or_memory(Status::Done, report_of(alloc, bits)),
+    match program_of(alloc, bytes) {
+        Ok(Some(program)) => text_or_memory(Status::Done, report_of(alloc, &program)),
         Ok(None) => text_or_memory(Status::Refused, refusal(alloc, "NotBuilt")),
         Err(_) => Answer::Memory,
     }

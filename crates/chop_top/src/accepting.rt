@@ -1,0 +1,54 @@
+//! From the bytes of a file to the program that they are the text of.
+ghost use Rattle.std.specs.Prelude.{◌≡◌, ◌<◌, ◌^◌, ◌↔◌, length, IfOk, IsTrue};
+ghost use Rattle.chop_top.specs.Accepted.{IsDefined, IsTreeOf, IsProgramOf};
+
+use flat_ir::Program;
+use flow::first_undefined;
+use ir_lexer::text::lex;
+use ir_reader::text::{SyntaxError, read};
+use ir_resolve::resolve;
+use ir_tree::module::IrTree;
+use std::alloc::{AllocError, Global};
+
+// The tree of a text, if it is a module.
+fn tree_of(alloc: Global, bytes: &[u8]) -> Result<Option<IrTree>, AllocError>
+    requires { length bytes.now < 2 ^ 32 }
+    ensures { IfOk result (λ tree. IsTreeOf bytes.now tree) }
+{
+    let tokens = lex(alloc, bytes)?;
+    match read(alloc, bytes, tokens.as_slice()) {
+        Ok(tree) => Ok(Some(tree)),
+        Err(SyntaxError::Syntax { .. }) => Ok(None),
+        Err(SyntaxError::Unsupported { .. }) => Ok(None),
+        Err(SyntaxError::Memory) => Err(AllocError),
+    }
+}
+
+// Whether each register of main is set before it is read.
+fn is_defined(alloc: Global, program: &Program) -> Result<bool, AllocError>
+    ensures { IfOk result (λ is. IsTrue is ↔ IsDefined program.now) }
+{
+    let parts = program.parts();
+    match parts.funcs.get(parts.main.0 as usize) {
+        Some(main) => Ok(first_undefined(alloc, main)?.is_none()),
+        None => Ok(true),
+    }
+}
+
+/// The program of a text, if it is the text of one that is built.
+pub fn program_of(alloc: Global, bytes: &[u8]) -> Result<Option<Program>, AllocError>
+    requires { length bytes.now < 2 ^ 32 }
+    ensures { IfOk result (λ program. IsProgramOf bytes.now program) }
+{
+    let Some(tree) = tree_of(alloc, bytes)? else {
+        return Ok(None);
+    };
+    let Some(program) = resolve(alloc, &tree)? else {
+        return Ok(None);
+    };
+    if is_defined(alloc, &program)? {
+        Ok(Some(program))
+    } else {
+        Ok(None)
+    }
+}

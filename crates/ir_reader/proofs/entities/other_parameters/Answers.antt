@@ -1,0 +1,15 @@
+use Rattle.std.proofs.Common.{[], ◌∷◌, ◌∙◌, sym}
+use Rattle.ir_grammar.specs.Module.{parameter}
+use Rattle.ir_reader.specs.Source.{pieces}
+use Rattle.ir_reader.proofs.Turns.{fewer}
+use Rattle.ir_reader.proofs.Parameters.{parameter_turn, parameter_shrinks}
+use Rattle.ir_reader.proofs.entities.other_parameters.Goals as goal
+
+pub commas-smaller : goal.commas-smaller
+commas-smaller c =
+    fewer c.commas.rest c.in_ok-next.after (parameter_shrinks (pieces c.commas.rest) (pieces c.in_ok-after.after) (pieces c.in_ok-next.after) c.in_ok-next.next c.in_ok-after.ensures c.in_ok-next.ensures)
+
+pub commas-preserved : goal.commas-preserved
+commas-preserved c =
+    parameter_turn c.commas.found c.push.new.self (pieces c.commas.rest) (pieces c.in_ok-after.after) (pieces c.in_ok-next.after) c.in_ok-next.next _
+    (sym c.has_mark.ensures ∙ c.commas-test.true) c.in_ok-after.ensures c.in_ok-next.ensures c.in_ok-push.ensures.ok c.commas.invariant

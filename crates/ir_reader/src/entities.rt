@@ -1,0 +1,278 @@
+//! Headers of functions, and what a module consists of.
+
+ghost use Rattle.std.specs.Prelude.{◌≡◌, ◌∷◌, [], codes, OnOk};
+ghost use Rattle.phrases.specs.Piece.{starts};
+ghost use Rattle.ir_grammar.specs.Types.{behind_commas, listed};
+ghost use Rattle.ir_grammar.specs.Module.{parameter as parameter_phrase, header as header_phrase, nothing, a_type, a_global_definition, a_declare, a_function, source_name as source_phrase, target_line as target_phrase, attribute_group as group_phrase, type_definition as type_phrase, global_definition as global_phrase, declare as declare_phrase, define as define_phrase, entity as entity_phrase, entity_starts, module_text};
+ghost use Rattle.ir_reader.specs.Source.{pieces};
+ghost use Rattle.ir_reader.specs.Gives.{Gives};
+ghost use Rattle.ir_reader.specs.Lines.{GivesAs};
+ghost use Rattle.ir_reader.specs.Entities.{entity_of, with_entities, MovesPast};
+
+use crate::constants::typed_constant;
+use crate::ignored::{after, attributes, ignored, tail};
+use crate::names::{global_name, local_name};
+use crate::source::Source;
+use crate::stop::Stop;
+use crate::terminators::{block, blocks};
+use crate::types::{NESTING, mem_type, result_type, value_type};
+use crate::words::{
+    has_kind, has_mark, has_word, has_word_of, skip_all_but, skip_kind, skip_mark, skip_word,
+    skip_word_of,
+};
+use ir_lexer::token::TokenKind;
+use ir_tree::module::{
+    FunctionDefinition, GlobalDefinition, Header, IrTree, Parameter, TypeDefinition,
+};
+use plain_list::Sequence;
+use std::alloc::{AllocError, Global};
+
+/// What a module consists of.
+#[derive(Drop)]
+pub enum Entity {
+    /// What has no place in the tree.
+    Nothing,
+    Type(TypeDefinition),
+    Global(GlobalDefinition),
+    Declare(Header),
+    Function(FunctionDefinition),
+}
+
+// ---- headers
+
+#[tactic(auto, unfolding(ir_grammar::specs::Module::parameter))]
+fn parameter<'a>(alloc: Global, source: Source<'a>) -> Result<(Parameter, Source<'a>), Stop<'a>>
+    ensures { Gives result (parameter_phrase.reads (pieces source.entry)) }
+{
+    let (kind, source) = value_type(source)?;
+    let source = attributes(source)?;
+    if has_kind(source, TokenKind::Local) {
+        let (name, source) = local_name(alloc, source)?;
+        let name = Some(name);
+        return Ok((Parameter { kind, name }, source));
+    }
+    let name = None;
+    Ok((Parameter { kind, name }, source))
+}
+
+/// Parameters, each behind a comma.
+fn other_parameters<'a>(
+    alloc: Global,
+    source: Source<'a>,
+) -> Result<(Sequence<Parameter>, Source<'a>), Stop<'a>>
+    ensures { Gives result ((behind_commas parameter_phrase).reads (pieces source.entry)) }
+{
+    let mut found = Sequence::new(alloc);
+    let mut rest = source;
+    'commas: while has_mark(rest, b",") {
+        let after = skip_mark(rest, b",")?;
+        let (next, after) = parameter(alloc, after)?;
+        found.push(next)?;
+        rest = after;
+    }
+    Ok((found, rest))
+}
+
+/// Parameters with commas between them, and the closing parenthesis.
+fn parameters<'a>(
+    alloc: Global,
+    source: Source<'a>,
+) -> Result<(Sequence<Parameter>, Source<'a>), Stop<'a>>
+    ensures { Gives result ((listed (codes ")") parameter_phrase).reads (pieces source.entry)) }
+{
+    let mut found = Sequence::new(alloc);
+    if has_mark(source, b")") {
+        let source = skip_mark(source, b")")?;
+        return Ok((found, source));
+    }
+    let (first, source) = parameter(alloc, source)?;
+    let (others, source) = other_parameters(alloc, source)?;
+    let source = skip_mark(source, b")")?;
+    found.push(first)?;
+    found.append(others)?;
+    Ok((found, source))
+}
+
+/// The header of a function.
+#[tactic(auto, unfolding(ir_grammar::specs::Module::header))]
+fn header<'a>(alloc: Global, source: Source<'a>) -> Result<(Header, Source<'a>), Stop<'a>>
+    ensures { Gives result (header_phrase.reads (pieces source.entry)) }
+{
+    let source = ignored(source)?;
+    let (kind, source) = result_type(source)?;
+    let (name, source) = global_name(alloc, source)?;
+    let source = skip_mark(source, b"(")?;
+    let (parameters, source) = parameters(alloc, source)?;
+    let source = tail(source)?;
+    let found = Header {
+        result: kind,
+        name,
+        parameters,
+    };
+    Ok((found, source))
+}
+
+// ---- entities
+
+/// The name of the source file.
+fn source_name(source: Source<'_>) -> Result<Source<'_>, Stop<'_>>
+    ensures { MovesPast nothing result (source_phrase.reads (pieces source.entry)) }
+{
+    let source = skip_word(source, b"source_filename")?;
+    let source = skip_mark(source, b"=")?;
+    skip_kind(source, TokenKind::Str)
+}
+
+/// The words behind `target`.
+const TARGETS: [&[u8]; 2] = [b"datalayout", b"triple"];
+
+fn target_line(source: Source<'_>) -> Result<Source<'_>, Stop<'_>>
+    ensures { MovesPast nothing result (target_phrase.reads (pieces source.entry)) }
+{
+    let source = skip_word(source, b"target")?;
+    let source = skip_word_of(source, &TARGETS)?;
+    let source = skip_mark(source, b"=")?;
+    skip_kind(source, TokenKind::Str)
+}
+
+/// A group of attributes, to its first `}`.
+fn attribute_group(source: Source<'_>) -> Result<Source<'_>, Stop<'_>>
+    ensures { MovesPast nothing result (group_phrase.reads (pieces source.entry)) }
+{
+    let source = skip_word(source, b"attributes")?;
+    let source = skip_kind(source, TokenKind::AttrGroup)?;
+    let source = skip_mark(source, b"=")?;
+    let source = skip_mark(source, b"{")?;
+    let source = skip_all_but(source, b"}");
+    skip_mark(source, b"}")
+}
+
+fn type_definition<'a>(
+    alloc: Global,
+    source: Source<'a>,
+) -> Result<(TypeDefinition, Source<'a>), Stop<'a>>
+    ensures { GivesAs a_type result (type_phrase.reads (pieces source.entry)) }
+{
+    let (name, source) = local_name(alloc, source)?;
+    let source = skip_mark(source, b"=")?;
+    let source = skip_word(source, b"type")?;
+    let (kind, source) = mem_type(alloc, source, NESTING)?;
+    Ok((TypeDefinition { name, kind }, source))
+}
+
+/// The words before the type of a global.
+const GLOBALS: [&[u8]; 2] = [b"global", b"constant"];
+
+fn global_definition<'a>(
+    alloc: Global,
+    source: Source<'a>,
+) -> Result<(GlobalDefinition, Source<'a>), Stop<'a>>
+    ensures { GivesAs a_global_definition result (global_phrase.reads (pieces source.entry)) }
+{
+    let (name, source) = global_name(alloc, source)?;
+    let source = skip_mark(source, b"=")?;
+    let source = ignored(source)?;
+    let source = skip_word_of(source, &GLOBALS)?;
+    let (value, source) = typed_constant(alloc, source, NESTING)?;
+    let source = after(source)?;
+    Ok((GlobalDefinition { name, value }, source))
+}
+
+fn declare<'a>(alloc: Global, source: Source<'a>) -> Result<(Header, Source<'a>), Stop<'a>>
+    ensures { GivesAs a_declare result (declare_phrase.reads (pieces source.entry)) }
+{
+    let source = skip_word(source, b"declare")?;
+    header(alloc, source)
+}
+
+fn define<'a>(
+    alloc: Global,
+    source: Source<'a>,
+) -> Result<(FunctionDefinition, Source<'a>), Stop<'a>>
+    ensures { GivesAs a_function result (define_phrase.reads (pieces source.entry)) }
+{
+    let source = skip_word(source, b"define")?;
+    let (header, source) = header(alloc, source)?;
+    let source = skip_mark(source, b"{")?;
+    let (first, source) = block(alloc, source)?;
+    let (others, source) = blocks(alloc, source)?;
+    let source = skip_mark(source, b"}")?;
+    let mut blocks = Sequence::of_one(alloc, first)?;
+    blocks.append(others)?;
+    Ok((FunctionDefinition { header, blocks }, source))
+}
+
+/// The next of what a module consists of.
+#[tactic(auto, unfolding(ir_grammar::specs::Module::entity))]
+fn next_entity<'a>(alloc: Global, source: Source<'a>) -> Result<(Entity, Source<'a>), Stop<'a>>
+    ensures { GivesAs entity_of result (entity_phrase.reads (pieces source.entry)) }
+{
+    if has_word(source, b"source_filename") {
+        Ok((Entity::Nothing, source_name(source)?))
+    } else if has_word(source, b"target") {
+        Ok((Entity::Nothing, target_line(source)?))
+    } else if has_word(source, b"attributes") {
+        Ok((Entity::Nothing, attribute_group(source)?))
+    } else if has_kind(source, TokenKind::Local) {
+        let (found, source) = type_definition(alloc, source)?;
+        Ok((Entity::Type(found), source))
+    } else if has_kind(source, TokenKind::Global) {
+        let (found, source) = global_definition(alloc, source)?;
+        Ok((Entity::Global(found), source))
+    } else if has_word(source, b"declare") {
+        let (found, source) = declare(alloc, source)?;
+        Ok((Entity::Declare(found), source))
+    } else {
+        let (found, source) = define(alloc, source)?;
+        Ok((Entity::Function(found), source))
+    }
+}
+
+/// The words with which an entity begins.
+const ENTITY_WORDS: [&[u8]; 3] = [b"source_filename", b"target", b"attributes"];
+
+/// The words of functions.
+const FUNCTION_WORDS: [&[u8]; 2] = [b"declare", b"define"];
+
+/// Whether something comes next that a module consists of.
+fn has_entity(source: Source<'_>) -> bool
+    ensures { result ≡ starts entity_starts (pieces source.entry) }
+{
+    has_word_of(source, &ENTITY_WORDS)
+        || has_kind(source, TokenKind::Local)
+        || has_kind(source, TokenKind::Global)
+        || has_word_of(source, &FUNCTION_WORDS)
+}
+
+/// Takes one more of what the module consists of.
+fn add(tree: &mut IrTree, entity: Entity) -> Result<(), AllocError>
+    ensures { OnOk result (tree.new ≡ with_entities tree.old (entity_of entity ∷ [])) }
+{
+    match entity {
+        Entity::Nothing => Ok(()),
+        Entity::Type(found) => tree.types.push(found),
+        Entity::Global(found) => tree.globals.push(found),
+        Entity::Declare(found) => tree.declares.push(found),
+        Entity::Function(found) => tree.functions.push(found),
+    }
+}
+
+/// A module as it is written.
+#[tactic(auto, unfolding(ir_grammar::specs::Module::module_text))]
+pub fn module<'a>(alloc: Global, source: Source<'a>) -> Result<(IrTree, Source<'a>), Stop<'a>>
+    ensures { Gives result (module_text.reads (pieces source.entry)) }
+{
+    let mut tree = IrTree {
+        types: Sequence::new(alloc),
+        globals: Sequence::new(alloc),
+        declares: Sequence::new(alloc),
+        functions: Sequence::new(alloc),
+    };
+    let mut rest = source;
+    'entities: while has_entity(rest) {
+        let (next, after) = next_entity(alloc, rest)?;
+        add(&mut tree, next)?;
+        rest = after;
+    }
+    Ok((tree, rest))
+}
