@@ -1,7 +1,6 @@
 -- What exploring gives from a state holds of the runs that go along with it; and the code's loop.
 use Rattle.std.proofs.Common.{◌≡◌, ℕ, zero, suc, ◌+◌, ◌-◌, ◌<◌, ◌==◌, Bool, true, false, List, [], ◌∷◌, ◌++◌, map, Option, Some, None, length, refl, sym, ◌∙◌, ap, subst, arith, if◌then◌else◌, add-one, append-nil, All, count_by, inl, inr}
 use Rattle.std.proofs.lemmas.List.Elements.{All-cons, All-head, All-tail}
-
 use Rattle.std.proofs.Math.Dec.{eqb-suc-zero}
 use Rattle.std.proofs.Math.Nat.{eq-zero-or-pos}
 use Rattle.bitnum.specs.Number.{Number}
@@ -96,9 +95,9 @@ next-beside p input done s counts answer some is at =
 -- a state that goes on had a step
 had-step : (p : ProgramData) (s t : State) → attempt p s ≡ Goes t → 0 < s.left
 had-step p s t is = elim (eq-zero-or-pos s.left) [
-    | inl none ↦ absurd (subst IsEnd (sym (attempt-none p s none) ∙ is) tt)
-    | inr some ↦ some
-  ]
+  | inl none ↦ absurd (subst IsEnd (sym (attempt-none p s none) ∙ is) tt)
+  | inr some ↦ some
+]
 
 -- a state that goes on takes the runs with it
 pub goes : (p : ProgramData) (done : ℕ) (s t : State) → attempt p s ≡ Goes t → IsAt p done s → IsAt p (done + 1) t
@@ -127,14 +126,15 @@ complete-sound p done inputs status s t same at ends input fits met returns =
 -- the leaf of a state that ends
 ends-sound : (p : ProgramData) (done inputs : ℕ) (s t : State) (ending : Ending) → attempt p s ≡ Ends ending t → IsAt p done s → IsSound p [] inputs (claim_of (found ending t))
 ends-sound p done inputs s t ending is at = elim (eq-zero-or-pos s.left) [
-    | inl none ↦ ends-empty p done inputs s t ending none is at
-    | inr some ↦ ends-after p done inputs s t ending some is at
-  ]
+  | inl none ↦ ends-empty p done inputs s t ending none is at
+  | inr some ↦ ends-after p done inputs s t ending some is at
+]
   where
     ends-empty : (p : ProgramData) (done inputs : ℕ) (s t : State) (ending : Ending) → s.left ≡ 0 → attempt p s ≡ Ends ending t → IsAt p done s → IsSound p [] inputs (claim_of (found ending t))
     ends-empty p done inputs s t ending none is at =
         let same = sym (attempt-none p s none) ∙ is in
         subst (λ f. IsSound p [] inputs (claim_of f)) (ap (found_of (found Open s)) same) (open-sound p done inputs s s refl at)
+
     ends-after : (p : ProgramData) (done inputs : ℕ) (s t : State) (ending : Ending) → 0 < s.left → attempt p s ≡ Ends ending t → IsAt p done s → IsSound p [] inputs (claim_of (found ending t))
     ends-after p done inputs s t (Complete status) some is at =
         let did = λ (input : List ℕ). next-beside p input done s at.counts (Ends (Complete status) t) some is (at.runs input) in
