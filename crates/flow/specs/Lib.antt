@@ -1,5 +1,0 @@
-pub mod Flow
-pub mod Named
-pub mod Paths
-pub mod PathLaws
-pub mod NamedLaws

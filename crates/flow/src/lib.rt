@@ -1,9 +1,0 @@
-//! Whether each register of a function is set on every path to where it is read.
-#![tactic(auto)]
-
-mod finding;
-mod operands;
-mod tables;
-mod unset;
-
-pub use finding::{Undefined, first_undefined, functions_are_named};
