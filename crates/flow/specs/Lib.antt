@@ -1,0 +1,5 @@
+pub mod Flow
+pub mod Named
+pub mod Paths
+pub mod PathLaws
+pub mod NamedLaws
