@@ -9,7 +9,7 @@ use Rattle.flat_ir.specs.declared.nodes.Node.{Node}
 use Rattle.flat_ir.specs.declared.nodes.Node.TheVariants as node
 use Rattle.flat_ir.specs.declared.nodes.RegType.TheVariants as type
 use Rattle.flat_ir.specs.Whole.{IsWhole, IsFuncOf, IsNodeOf, IsWidth, OperandIn}
-use Rattle.bench_explorer.specs.Counting.{number, count, less, counting_main, counting}
+use Rattle.bench_explorer.specs.Counting.{number, count, less, counts, compares, turns, returns, counting_main, counting}
 
 none : {A : Type 0} (P : A → Type 0) → All P []
 none P k d below = absurd (omega (arith, below))
@@ -26,16 +26,16 @@ RegIn r = r.0 < 2
 abbrev NodeIn : NodeId → Type 0
 NodeIn n = n.0 < 4
 
-add-in : IsNodeOf 0 1 2 4 (node.Bin Add count (number 1) (record { 0 = 0 }) (record { 0 = 1 }))
+add-in : IsNodeOf 0 1 2 4 counts
 add-in = record { operands = two (OperandIn 0 2) count (number 1) (omega arith) tt; results = one RegIn (record { 0 = 0 }) (omega arith); successors = one NodeIn (record { 0 = 1 }) (omega arith); names = tt }
 
-less-in : (limit : ℕ) → IsNodeOf 0 1 2 4 (node.Cmp Ult count (number limit) (record { 0 = 1 }) (record { 0 = 2 }))
+less-in : (limit : ℕ) → IsNodeOf 0 1 2 4 (compares limit)
 less-in limit = record { operands = two (OperandIn 0 2) count (number limit) (omega arith) tt; results = one RegIn (record { 0 = 1 }) (omega arith); successors = one NodeIn (record { 0 = 2 }) (omega arith); names = tt }
 
-branch-in : IsNodeOf 0 1 2 4 (node.Branch less (record { 0 = 0 }) (record { 0 = 3 }))
+branch-in : IsNodeOf 0 1 2 4 turns
 branch-in = record { operands = one (OperandIn 0 2) less (omega arith); results = none RegIn; successors = two NodeIn (record { 0 = 0 }) (record { 0 = 3 }) (omega arith) (omega arith); names = tt }
 
-return-in : IsNodeOf 0 1 2 4 (node.Ret (Some count))
+return-in : IsNodeOf 0 1 2 4 returns
 return-in = record { operands = one (OperandIn 0 2) count (omega arith); results = none RegIn; successors = none NodeIn; names = tt }
 
 main-whole : (limit : ℕ) → IsFuncOf 0 1 (counting_main limit)
@@ -46,7 +46,7 @@ main-whole limit = record {
   named = refl;
   params = omega arith;
   widths = two IsWidth (type.Int 32) (type.Int 1) (omega arith, omega arith) (omega arith, omega arith);
-  nodes = All-cons (IsNodeOf 0 1 2 4) _ _ add-in (All-cons (IsNodeOf 0 1 2 4) _ _ (less-in limit) (two (IsNodeOf 0 1 2 4) _ _ branch-in return-in));
+  nodes = All-cons (IsNodeOf 0 1 2 4) counts (compares limit ∷ turns ∷ returns ∷ []) add-in (All-cons (IsNodeOf 0 1 2 4) (compares limit) (turns ∷ returns ∷ []) (less-in limit) (two (IsNodeOf 0 1 2 4) turns returns branch-in return-in));
   clashes = none _;
   bad_edges = none _;
 }

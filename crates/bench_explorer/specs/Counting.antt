@@ -2,6 +2,7 @@
 use Rattle.std.specs.Prelude.{ℕ, List, [], ◌∷◌, Some}
 use Rattle.bitnum.specs.declared.BinOp.TheVariants.{Add}
 use Rattle.bitnum.specs.declared.Pred.TheVariants.{Ult}
+use Rattle.flat_ir.specs.declared.nodes.Node.{Node}
 use Rattle.flat_ir.specs.declared.nodes.Node.TheVariants as node
 use Rattle.flat_ir.specs.declared.nodes.Operand.{Operand}
 use Rattle.flat_ir.specs.declared.nodes.Operand.TheVariants as operand
@@ -18,6 +19,18 @@ count = operand.Reg (record { 0 = 0 })
 abbrev pub less : Operand
 less = operand.Reg (record { 0 = 1 })
 
+abbrev pub counts : Node
+counts = node.Bin Add count (number 1) (record { 0 = 0 }) (record { 0 = 1 })
+
+abbrev pub compares : ℕ → Node
+compares limit = node.Cmp Ult count (number limit) (record { 0 = 1 }) (record { 0 = 2 })
+
+abbrev pub turns : Node
+turns = node.Branch less (record { 0 = 0 }) (record { 0 = 3 })
+
+abbrev pub returns : Node
+returns = node.Ret (Some count)
+
 abbrev pub counting_main : ℕ → Func
 counting_main limit = record {
   name = [];
@@ -25,10 +38,7 @@ counting_main limit = record {
   regs = type.Int 32 ∷ type.Int 1 ∷ [];
   reg_names = [] ∷ [] ∷ [];
   result = Some (type.Int 32);
-  nodes = node.Bin Add count (number 1) (record { 0 = 0 }) (record { 0 = 1 })
-      ∷ node.Cmp Ult count (number limit) (record { 0 = 1 }) (record { 0 = 2 })
-      ∷ node.Branch less (record { 0 = 0 }) (record { 0 = 3 })
-      ∷ node.Ret (Some count) ∷ [];
+  nodes = counts ∷ compares limit ∷ turns ∷ returns ∷ [];
   clashes = [];
   bad_edges = [];
 }
