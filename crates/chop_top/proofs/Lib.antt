@@ -1,2 +1,3 @@
+pub mod OfBytes
 pub mod Answering
 pub mod Numbers

@@ -20,7 +20,7 @@ one-type (Register r width) rest h = All-cons IsNumberType (type.Int width) rest
 one-type (Label n) rest h = h
 
 types-number : (names : List Named) → All IsNumberType (types_of names)
-types-number [] k d below = absurd (omega (arith, below))
+types-number [] = λ k d below. absurd (omega (arith, below))
 types-number (x ∷ xs) = one-type x.local (types_of xs) (types-number xs)
 
 -- a program, if there is one, has numbers

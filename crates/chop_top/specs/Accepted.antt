@@ -1,5 +1,5 @@
 -- The text of a program.
-use Rattle.std.specs.Prelude.{◌≡◌, ℕ, List, Option, Some, None}
+use Rattle.std.specs.Prelude.{◌≡◌, ℕ, Bool, true, false, List, Option, Some, None}
 use Rattle.flat_ir.specs.declared.program.Func.{Func}
 use Rattle.flat_ir.specs.declared.program.ProgramData.{ProgramData}
 use Rattle.flat_ir.specs.Machine.{func_at}
@@ -29,3 +29,8 @@ IsTreeOf bytes None = (tree : IrTree) → IsReadAs bytes tree → ⊥
 abbrev pub IsProgramOf : List ℕ → Option ProgramData → Type 0
 IsProgramOf bytes (Some p) = Reads bytes p
 IsProgramOf bytes None = (p : ProgramData) → Reads bytes p → ⊥
+
+-- a test tells whether something holds
+abbrev pub Tells : Bool → Type 0 → Type 0
+Tells true P = P
+Tells false P = P → ⊥

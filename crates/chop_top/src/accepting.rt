@@ -1,8 +1,10 @@
 //! From the bytes of a file to the program that they are the text of.
-ghost use Rattle.std.specs.Prelude.{◌≡◌, ◌<◌, ◌^◌, ◌↔◌, length, IfOk, IsTrue};
-ghost use Rattle.chop_top.specs.Accepted.{IsDefined, IsTreeOf, IsProgramOf};
+ghost use Rattle.std.specs.Prelude.{◌≡◌, ◌<◌, ◌^◌, length, IfOk};
+ghost use Rattle.flow.specs.Flow.{AreDefined};
+ghost use Rattle.flow.specs.Named.{IsNamed};
+ghost use Rattle.chop_top.specs.Accepted.{IsDefined, IsTreeOf, IsProgramOf, Tells};
 
-use flat_ir::Program;
+use flat_ir::{Func, Program};
 use flow::first_undefined;
 use ir_lexer::text::lex;
 use ir_reader::text::{SyntaxError, read};
@@ -24,13 +26,24 @@ fn tree_of(alloc: Global, bytes: &[u8]) -> Result<Option<IrTree>, AllocError>
     }
 }
 
+// Whether a function has no register that is read before it is set.
+fn has_none(alloc: Global, function: &Func) -> Result<bool, AllocError>
+    requires { IsNamed function.now }
+    ensures { IfOk result (λ none. Tells none (AreDefined function.now)) }
+{
+    match first_undefined(alloc, function)? {
+        None => Ok(true),
+        Some(_) => Ok(false),
+    }
+}
+
 // Whether each register of main is set before it is read.
 fn is_defined(alloc: Global, program: &Program) -> Result<bool, AllocError>
-    ensures { IfOk result (λ is. IsTrue is ↔ IsDefined program.now) }
+    ensures { IfOk result (λ is. Tells is (IsDefined program.now)) }
 {
     let parts = program.parts();
     match parts.funcs.get(parts.main.0 as usize) {
-        Some(main) => Ok(first_undefined(alloc, main)?.is_none()),
+        Some(main) => has_none(alloc, main),
         None => Ok(true),
     }
 }
