@@ -65,7 +65,6 @@ fn parts_of(alloc: Global, limit: u32) -> Result<ProgramData, AllocError>
     })
 }
 
-#[tactic(auto, using(crate::proofs::Whole::counting_is_whole))]
 fn program_of(alloc: Global, limit: u32) -> Result<Program, AllocError> {
     Program::new(alloc, parts_of(alloc, limit)?)
 }

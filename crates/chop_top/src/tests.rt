@@ -15,6 +15,38 @@ const REPORT_OF_LEAST: &str = "options input=0 steps=100000 leaves=10000 shares=
 total 1 complete 1 fault 0 skipped 0 open 0
 ";
 
+const BLOCK: &str = "define i32 @main() { %a = sub i32 2, 3 %b = icmp slt i32 %a, 0 ret i32 %a }";
+
+const REPORT_OF_BLOCK: &str = "options input=0 steps=100000 leaves=10000 shares=1024
+1 complete input=- status=255 output=- steps=3
+total 1 complete 1 fault 0 skipped 0 open 0
+";
+
+const LOOP: &str = "define i32 @main() { br label %a a: br label %a }";
+
+const REPORT_OF_LOOP: &str = "options input=0 steps=100000 leaves=10000 shares=1024
+1 open steps input=- steps=100000
+total 1 complete 0 fault 0 skipped 0 open 1
+";
+
+const UNNAMED: &str = "define i32 @main() { %1 = add i32 40, 2 br label %2 2: %3 = icmp ugt i32 %1, 41 br i1 %3, label %\"the end\", label %4 4: ret i32 0 \"the end\": ret i32 %1 }";
+
+const REPORT_OF_UNNAMED: &str = "options input=0 steps=100000 leaves=10000 shares=1024
+1 complete input=- status=42 output=- steps=5
+total 1 complete 1 fault 0 skipped 0 open 0
+";
+
+const REFUSED: [&str; 8] = [
+    "",
+    "define i32 @main() { ret i32 4294967296 }",
+    "define i32 @main() { br label %a a: br label %b a: ret i32 0 b: ret i32 1 }",
+    "define i32 @main() { %2 = add i32 1, 1 ret i32 %2 }",
+    "define i32 @main() { e: br i1 true, label %a, label %b a: %x = add i32 1, 1 br label %b b: ret i32 %x }",
+    "define i32 @main() { e: br label %e }",
+    "define i32 @main() { %a = add i8 1, 1 ret i32 %a }",
+    "define i32 @main() { %a = add i32 %b, 1 ret i32 %a }",
+];
+
 const REPORT: &str = "options input=0 steps=100000 leaves=10000 shares=1024
 1 complete input=- status=0 output=- steps=1
 total 1 complete 1 fault 0 skipped 0 open 0
@@ -43,6 +75,18 @@ fn explored<R: Threads + Wait + Sync>(
     Ok((status, Vec::from_slice(alloc, sink.bytes())?))
 }
 
+// Duplicate labels, numbers that aren't the counter's, a register that is set on one of two paths, a branch to the first block, a type
+// that clashes, and a name that stands for nothing.
+#[test]
+fn refusals(rt: HostRuntime) -> Result<(), Fail> {
+    for text in REFUSED {
+        let got = explored(&rt, rt.alloc(), &["explore", "--input", "0", "F"], text, (0, 0))?;
+        assert_eq!(rt; got.0, Status::Refused, "at {text}");
+        assert_eq!(rt; got.1.as_slice(), b"refused NotBuilt\n".as_slice(), "at {text}");
+    }
+    Ok(())
+}
+
 #[test]
 fn words_and_texts(rt: HostRuntime) -> Result<(), Fail> {
     let all = ["explore", "--input", "0", "F"].as_slice();
@@ -57,13 +101,9 @@ fn words_and_texts(rt: HostRuntime) -> Result<(), Fail> {
             "usage end\n",
         ),
         (much, RETURNS_ZERO, Status::Usage, "usage 65\n"),
-        (all, "", Status::Refused, "refused NotBuilt\n"),
-        (
-            all,
-            "define i32 @main() { ret i32 4294967296 }",
-            Status::Refused,
-            "refused NotBuilt\n",
-        ),
+        (all, BLOCK, Status::Done, REPORT_OF_BLOCK),
+        (all, LOOP, Status::Done, REPORT_OF_LOOP),
+        (all, UNNAMED, Status::Done, REPORT_OF_UNNAMED),
         (
             all,
             "define i32 @main() { ret i32 0: }",
