@@ -116,5 +116,4 @@ pub fn first_undefined(alloc: Global, func: &Func) -> Result<Option<Undefined>, 
 /// A function of a whole program names its own nodes and registers.
 pub fn functions_are_named()
     ensures { FuncsAreNamed }
-{
-}
+{}

@@ -1,8 +1,6 @@
-use Rattle.std.proofs.Common.{◌≡◌, ◌<◌, ⊎_elim, arith, subst, sym}
-use Rattle.std.proofs.lemmas.Bool.{cases_lt}
+use Rattle.std.proofs.Common.{arith, subst}
 use Rattle.std.proofs.lemmas.Option.{MatchOption-at_some, MatchOption-at_none}
 use Rattle.flat_ir.specs.declared.program.Func.{Func}
-use Rattle.flow.specs.Flow.{IsUndefined}
 use Rattle.flow.specs.Paths.{NoneAt, FirstAt, node_of}
 use Rattle.flow.proofs.Bridges.{first_of_all, none_at_all, none_so_far}
 use Rattle.flow.proofs.finding.find.Goals as goal

@@ -13,5 +13,5 @@ returns c =
     let pushed : Node → List Node → List Node = λ n ns. ns ++ n ∷ [] in
     let e : c.push-3.new.self ≡ one_side =
     c.in_ok-push-3.ensures.ok ∙ ap (pushed (node.Ret (Some (operand.Reg (r 1))))) (c.in_ok-push-2.ensures.ok ∙ ap (pushed (node.In (r 1) (at 2)))
-        (c.in_ok-push.ensures.ok ∙ ap (pushed branch) c.new-nodes.ensures)) in
+    (c.in_ok-push.ensures.ok ∙ ap (pushed branch) c.new-nodes.ensures)) in
     IfOk-weaker c.func.result (λ (f : Func). (length f.regs ≡ 2) × (f.nodes ≡ c.push-3.new.self)) IsNamed (λ f h. one_side_is_named f h.0 (h.1 ∙ e)) c.func.ensures
