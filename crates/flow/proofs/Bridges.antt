@@ -1,13 +1,13 @@
 -- From the lists of a function's nodes to the function.
-use Rattle.std.proofs.Common.{◌≡◌, ◌<◌, ◌≤◌, ◌+◌, ◌++◌, ◌⊎◌, ◌∙◌, ℕ, suc, All, List, [], ◌∷◌, Some, length, map, refl, sym, ap, subst, ⊎_elim, inl, inr, arith, take, drop, add-one, drop-cons}
+use Rattle.std.proofs.Common.{◌≡◌, ◌<◌, ◌+◌, ◌++◌, ◌⊎◌, ◌∙◌, ℕ, suc, All, List, [], ◌∷◌, Some, length, map, refl, sym, ap, subst, ⊎_elim, inl, inr, arith, take, drop, add-one, drop-cons}
 use Rattle.std.proofs.Math.Seq.{take-suc}
 use Rattle.std.specs.Prelude.{slice_get, slice_index_or, Option, MatchOption, None}
 use Rattle.std.specs.Option.{option_map}
 use Rattle.std.specs.List.{Contains}
 use Rattle.std.proofs.lemmas.List.{take-append-drop, get_or-map, get_or_past, length-map}
-use Rattle.std.proofs.lemmas.List.Elements.{All-contains, Contains-append_cases, Contains-append_right, Contains-get_or, Contains-push_cases}
+use Rattle.std.proofs.lemmas.List.Elements.{All-contains, Contains-append_cases, Contains-append_right, Contains-push_cases}
 use Rattle.std.proofs.lemmas.Bool.{cases_lt}
-use Rattle.std.proofs.lemmas.Option.{slice_get-map, slice_get_cases, get_or_from_slice_get, slice_get_within, slice_get-get_or}
+use Rattle.std.proofs.lemmas.Option.{slice_get-map, slice_get_cases, get_or_from_slice_get, slice_get_within}
 use Rattle.flat_ir.specs.declared.names.NodeId.{NodeId}
 use Rattle.flat_ir.specs.declared.names.RegId.{RegId}
 use Rattle.flat_ir.specs.declared.nodes.Node.{Node}
@@ -15,7 +15,7 @@ use Rattle.flat_ir.specs.declared.program.Func.{Func}
 use Rattle.flat_ir.specs.Whole.{successors_of, results_of}
 use Rattle.flow.specs.Flow.{Leads, entry, goes, IsSet, IsUndefined, AreDefined, IsFirst, reads}
 use Rattle.flow.specs.Named.{IsNamed}
-use Rattle.flow.specs.Paths.{row_of, node_of, HasEdge, IsGraph, SetsAt, Comes, starts, goes_on, IsLost, NoneOf, FirstOf, NoneAt, FirstAt}
+use Rattle.flow.specs.Paths.{row_of, node_of, IsGraph, Comes, starts, goes_on, IsLost, NoneOf, FirstOf, NoneAt, FirstAt}
 
 -- the row of the node at a place
 pub row_at : {X Y : Type 0} (v : X → List Y) (xs : List X) (n : ℕ) (x : X) → slice_get xs n ≡ Some x → slice_index_or (map v xs) n [] ≡ v x

@@ -16,21 +16,21 @@ use Rattle.flow.specs.Flow.{Leads, entry, goes, IsSet, IsUndefined, AreDefined, 
 use Rattle.flow.specs.Named.{IsNamed}
 use Rattle.flow.proofs.Bridges.{none_there, no_set, still_unset, same_node, first_or_later}
 
-abbrev at : ℕ → NodeId
+abbrev pub at : ℕ → NodeId
 at k = record { 0 = k }
 
-abbrev r : ℕ → RegId
+abbrev pub r : ℕ → RegId
 r k = record { 0 = k }
 
 -- a function of one parameter of one bit, and one more register
-abbrev func : List Node → Func
+abbrev pub func : List Node → Func
 func nodes = record { name = []; params = 1; regs = type.Int 1 ∷ type.Int 8 ∷ []; reg_names = []; result = None; nodes = nodes; clashes = []; bad_edges = [] }
 
-abbrev branch : Node
+abbrev pub branch : Node
 branch = node.Branch (operand.Reg (r 0)) (at 1) (at 2)
 
 -- the second register is set on one side of the branch alone
-abbrev one_side : List Node
+abbrev pub one_side : List Node
 one_side = branch ∷ node.In (r 1) (at 2) ∷ node.Ret (Some (operand.Reg (r 1))) ∷ []
 
 -- on the other side it is read

@@ -1,3 +1,4 @@
 pub mod Bridges
+pub mod Exact
 pub mod Examples
 pub mod WalkSets

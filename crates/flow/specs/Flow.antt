@@ -1,6 +1,6 @@
--- Whether each register is set on every path to where it is read: what the LLVM Language Reference asks of well formed programs
--- ("Well-Formedness"; "Functions": a definition dominates each of its uses), said over the paths of one function.
-use Rattle.std.specs.Prelude.{◌≡◌, ℕ, ◌<◌, ◌≤◌, List, [], ◌∷◌, ◌++◌, Some, slice_get}
+-- Whether each register is set on every path to where it is read: the rule of well formed programs in the LLVM Language Reference
+-- (section "Well-Formedness": a definition dominates all of its uses), said over the paths of one function.
+use Rattle.std.specs.Prelude.{◌≡◌, ◌<◌, ◌≤◌, List, [], ◌∷◌, ◌++◌, Some, slice_get}
 use Rattle.std.specs.List.{Contains, flat_map}
 use Rattle.flat_ir.specs.declared.names.NodeId.{NodeId}
 use Rattle.flat_ir.specs.declared.names.RegId.{RegId}

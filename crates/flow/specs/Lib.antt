@@ -3,3 +3,4 @@ pub mod Named
 pub mod Paths
 pub mod PathLaws
 pub mod NamedLaws
+pub mod Answers

@@ -1,6 +1,5 @@
 -- A function whose nodes name registers and nodes that there are.
-use Rattle.std.specs.Prelude.{◌≡◌, ℕ, ◌<◌, ◌≤◌, ◌^◌, All, length}
-use Rattle.flat_ir.specs.declared.nodes.Node.{Node}
+use Rattle.std.specs.Prelude.{◌<◌, ◌≤◌, ◌^◌, All, length}
 use Rattle.flat_ir.specs.declared.program.Func.{Func}
 use Rattle.flat_ir.specs.Whole.{successors_of}
 use Rattle.flow.specs.Flow.{reads}

@@ -1,5 +1,5 @@
 -- A function of a whole program names its own nodes and registers.
-use Rattle.std.proofs.Common.{◌≡◌, ◌<◌, ℕ, All, List, [], ◌∷◌, ◌++◌, length, arith}
+use Rattle.std.proofs.Common.{◌<◌, ℕ, All, List, [], ◌∷◌, length}
 use Rattle.std.specs.List.{flat_map}
 use Rattle.std.proofs.lemmas.List.Elements.{All-weaker, All-append, All-cons, All-nil, All-head, All-tail}
 use Rattle.flat_ir.specs.declared.names.NodeId.{NodeId}
@@ -11,7 +11,6 @@ use Rattle.flat_ir.specs.declared.program.Func.{Func}
 use Rattle.flat_ir.specs.Whole.{OperandIn, IsFuncOf, IsNodeOf, operands_of, successors_of}
 use Rattle.flow.specs.Flow.{read_by, reads}
 use Rattle.flow.specs.Named.{IsNamed}
-
 
 read_within : (globals regs : ℕ) (o : Operand) → OperandIn globals regs o → All (λ r. r.0 < regs) (read_by o)
 read_within globals regs (operand.Reg r) h = All-cons (λ (r : RegId). r.0 < regs) r [] h (All-nil (λ (r : RegId). r.0 < regs))

@@ -1,25 +1,19 @@
 //! The first register that is read where nothing may have set it.
-ghost use Rattle.std.specs.Prelude.{◌≡◌, ◌↔◌, ◌<◌, ◌≤◌, ℕ, length, map, IfOk, IsTrue, MatchOption, slice_get, Some};
-ghost use Rattle.std.specs.List.{Contains};
+ghost use Rattle.std.specs.Prelude.{◌≡◌, ◌↔◌, ◌<◌, length, map, IfOk, IsTrue, MatchOption};
 ghost use Rattle.flat_ir.specs.Whole.{results_of};
-ghost use Rattle.flow.specs.Flow.{AreDefined, IsFirst, reads};
+ghost use Rattle.flow.specs.Answers.{NamesFirst};
+ghost use Rattle.flow.specs.Flow.{AreDefined, IsFirst};
 ghost use Rattle.flow.specs.Named.{IsNamed};
 ghost use Rattle.flow.specs.NamedLaws.{FuncsAreNamed};
 ghost use Rattle.flow.specs.Paths.{row_of, IsLost, NoneOf, FirstOf, NoneAt, FirstAt, node_of};
 
+use crate::Undefined;
 use crate::operands::registers_read;
 use crate::tables::{results_of_each, rows};
 use crate::unset::unset;
-use flat_ir::{Func, Node, NodeId, RegId};
+use flat_ir::{Func, NodeId, RegId};
 use plain_list::Sequence;
 use std::alloc::{AllocError, Global};
-
-/// A node, and a register that it reads though on some path nothing has set it.
-#[derive(Clone, Copy, Debug, PartialEq, Eq)]
-pub struct Undefined {
-    pub node: NodeId,
-    pub register: RegId,
-}
 
 /// A function, with what each of its nodes leads to and sets.
 #[derive(Drop)]
@@ -85,17 +79,10 @@ impl<'a> Lists<'a> {
     }
 }
 
-/// The first node, and the first of the registers that it reads, such that the register is no
-/// parameter and on some path from the entry to the node no node before it sets the register:
-/// the place where the function breaks the Language Reference's rule that a definition dominates
-/// each of its uses. `None` if there is no such place.
-///
-/// # Errors
-///
-/// `AllocError` if memory runs out.
-pub fn first_undefined(alloc: Global, func: &Func) -> Result<Option<Undefined>, AllocError>
+/// The first place, node by node.
+fn find(alloc: Global, func: &Func) -> Result<Option<Undefined>, AllocError>
     requires { IsNamed func.now }
-    ensures first { IfOk result (λ found. MatchOption found (AreDefined func.now) (λ at. IsFirst func.now at.node at.register)) }
+    ensures { IfOk result (λ found. MatchOption found (AreDefined func.now) (λ at. IsFirst func.now at.node at.register)) }
 {
     let lists = Lists::new(alloc, func)?;
     for node in 0..func.nodes.len() {
@@ -110,8 +97,23 @@ pub fn first_undefined(alloc: Global, func: &Func) -> Result<Option<Undefined>, 
     Ok(None)
 }
 
+/// The first node, and the first of the registers that it reads, such that the register is no
+/// parameter and on some path from the entry to the node no node before it sets the register:
+/// where the function breaks the Language Reference's rule that a definition dominates each of
+/// its uses. `None` if there is no such place.
+///
+/// # Errors
+///
+/// `AllocError` if memory runs out.
+pub fn first_undefined(alloc: Global, func: &Func) -> Result<Option<Undefined>, AllocError>
+    requires { IsNamed func.now }
+    ensures none { IfOk result (λ found. (found ≡ None) ↔ AreDefined func.now) }
+    ensures first { IfOk result (NamesFirst func.now) }
+{
+    find(alloc, func)
+}
+
 /// A function of a whole program names its own nodes and registers.
 pub fn functions_are_named()
     ensures { FuncsAreNamed }
-{
-}
+{}

@@ -6,6 +6,8 @@ mod operands;
 mod tables;
 #[cfg(test)]
 mod tests;
+mod undefined;
 mod unset;
 
-pub use finding::{Undefined, first_undefined, functions_are_named};
+pub use finding::{first_undefined, functions_are_named};
+pub use undefined::Undefined;

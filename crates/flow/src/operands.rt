@@ -64,7 +64,10 @@ fn operands(alloc: Global, node: &Node) -> Result<Sequence<Operand>, AllocError>
         Node::Bin { a, b, .. } | Node::Cmp { a, b, .. } => Sequence::from_slice(alloc, &[*a, *b]),
         Node::Gep { base, parts, .. } => pointer_operands(alloc, *base, parts.as_slice()),
         Node::Select {
-            condition, a, b, ..
+            condition,
+            a,
+            b,
+            ..
         } => Sequence::from_slice(alloc, &[*condition, *a, *b]),
         Node::Store { value, pointer, .. } => Sequence::from_slice(alloc, &[*value, *pointer]),
         Node::Copy { from, to, .. } => Sequence::from_slice(alloc, &[*from, *to]),

@@ -11,7 +11,11 @@ use plain_list::Sequence;
 use std::alloc::{AllocError, Global};
 
 /// The numbers of the nodes that a switch leads to.
-fn switch_row(alloc: Global, cases: &[SwitchCase], default: NodeId) -> Result<Sequence<u32>, AllocError>
+fn switch_row(
+    alloc: Global,
+    cases: &[SwitchCase],
+    default: NodeId,
+) -> Result<Sequence<u32>, AllocError>
     ensures { IfOk result (λ row. row ≡ map (λ c. c.to.0) cases.now ++ default.0 ∷ []) }
 {
     let mut row = Vec::new(alloc);
@@ -45,9 +49,11 @@ fn row(alloc: Global, node: &Node) -> Result<Sequence<u32>, AllocError>
         | Node::Jump { next } => Sequence::of_one(alloc, next.0),
         Node::Branch { yes, no, .. } => Sequence::from_slice(alloc, &[yes.0, no.0]),
         Node::Switch { cases, default, .. } => switch_row(alloc, cases.as_slice(), *default),
-        Node::Ret { .. } | Node::Exit { .. } | Node::Abort | Node::Assert { .. } | Node::Unreachable => {
-            Ok(Sequence::new(alloc))
-        }
+        Node::Ret { .. }
+        | Node::Exit { .. }
+        | Node::Abort
+        | Node::Assert { .. }
+        | Node::Unreachable => { Ok(Sequence::new(alloc)) }
     }
 }
 
@@ -114,7 +120,10 @@ fn results(alloc: Global, node: &Node) -> Result<Sequence<RegId>, AllocError>
 }
 
 /// The registers that each node sets.
-pub fn results_of_each(alloc: Global, nodes: &[Node]) -> Result<Sequence<Sequence<RegId>>, AllocError>
+pub fn results_of_each(
+    alloc: Global,
+    nodes: &[Node],
+) -> Result<Sequence<Sequence<RegId>>, AllocError>
     ensures { IfOk result (λ each. each ≡ map results_of nodes.now) }
 {
     let mut each = Vec::new(alloc);

@@ -1,4 +1,4 @@
-use Rattle.std.proofs.Common.{◌≡◌, Bool, IsTrue, List, arith, sym, subst}
+use Rattle.std.proofs.Common.{List, arith, subst}
 use Rattle.std.proofs.lemmas.List.{take_all}
 use Rattle.flat_ir.specs.declared.names.RegId.{RegId}
 use Rattle.flow.specs.Paths.{IsLost, NoneOf}

@@ -1,5 +1,5 @@
-use Rattle.std.proofs.Common.{ℕ, List, sym, subst, map}
-use Rattle.flow.specs.Paths.{IsGraph, row_of}
+use Rattle.std.proofs.Common.{ℕ, List, sym, subst}
+use Rattle.flow.specs.Paths.{IsGraph}
 use Rattle.flow.proofs.Bridges.{graph_of}
 use Rattle.flow.proofs.finding.Lists.is_lost.Goals as goal
 

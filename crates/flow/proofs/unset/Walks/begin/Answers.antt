@@ -1,5 +1,4 @@
 use Rattle.std.proofs.Common.{⊎_elim, inl, inr, ◌∙◌}
-use Rattle.least.specs.Sets.{has}
 use Rattle.flow.proofs.WalkSets.{start_only}
 use Rattle.flow.proofs.unset.Walks.begin.Goals as goal
 

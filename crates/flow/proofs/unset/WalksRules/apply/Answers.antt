@@ -1,5 +1,4 @@
 use Rattle.std.proofs.Common.{arith, rules, ◌≡◌, true, false}
-use Rattle.least.specs.Sets.{has}
 use Rattle.flow.proofs.WalkSets.{in_graph, go_only}
 use Rattle.flow.proofs.unset.WalksRules.apply.Goals as goal
 
