@@ -1,2 +1,4 @@
 pub mod Backs
 pub mod Tells
+pub mod Bytes
+pub mod Names
