@@ -1,5 +1,5 @@
 -- Names and strings are printed so that they are read again, whatever bytes they have.
-use Rattle.std.proofs.Common.{◌≡◌, ℕ, zero, suc, ◌+◌, ◌*◌, ◌/◌, ◌%◌, ◌<◌, ◌≤◌, Bool, true, false, cond, not, ◌||◌, ◌&&◌, ◌==◌, nat_le, nat_lt, List, [], ◌∷◌, ◌++◌, Option, Some, None, refl, sym, ap, subst, ◌∙◌, arith, append_assoc, eqb-true, ltb-true, mod-lt, div-add-mod', div-lt_iff_lt-mul}
+use Rattle.std.proofs.Common.{◌≡◌, ℕ, zero, suc, ◌+◌, ◌*◌, ◌/◌, ◌%◌, ◌<◌, ◌≤◌, Bool, true, false, cond, not, ◌||◌, ◌&&◌, ◌==◌, nat_le, nat_lt, List, [], ◌∷◌, ◌++◌, Option, Some, None, refl, sym, ap, subst, ◌∙◌, arith, append_assoc, eqb-true, ltb-true, lt-ltb, mod-lt, div-add-mod', div-lt_iff_lt-mul}
 use Rattle.std.specs.Prelude.{codes}
 use Rattle.ir_lexer.specs.declared.token.TokenKind.{TokenKind}
 use Rattle.ir_lexer.specs.declared.token.TokenKind.TheVariants as kinds
@@ -112,12 +112,6 @@ pub closed_again : (s : List ℕ) → are_bytes s ≡ true → is_closed (escape
 closed_again s h = runs_through is_unquoted (codes "\"") (escaped s) (34 ∷ []) (no_quotes s h)
 
 -- ---- names without quotes
-
--- a name that stands as it is
-pub record IsPlain (b : ℕ) (bs : List ℕ) : Type 0 where
-  pub form : (is_name_start b && runs_to is_name_byte [] bs || is_digit b && runs_to is_digit [] bs) ≡ true
-  pub small : nat_lt b 256 ≡ true
-  pub bytes : are_bytes bs ≡ true
 
 -- a name that begins like one, or a number
 pub data Plain (b : ℕ) (bs : List ℕ) : Type 0 where
@@ -294,3 +288,68 @@ label_of_quoted s h =
 
 pub label_is : (s : List ℕ) → are_bytes s ≡ true → kind_of (label_text s) ≡ Some kinds.Label
 label_is s h = name_cases (λ t. kind_of (t ++ 58 ∷ []) ≡ Some kinds.Label) s h (λ b bs e lt p. label_of_plain b bs lt p) (label_of_quoted s h)
+
+-- ---- numbers
+
+pub digits_kind : (d : ℕ) (ds : List ℕ) → nat_lt d 256 ≡ true → is_digit d ≡ true → runs_to is_digit [] ds ≡ true → kind_of (d ∷ ds) ≡ Some kinds.Int
+unfolding chosen
+digits_kind d ds lt e h =
+    chosen_plain false true (d == 45) (is_name_start d) d ds lt (within_bytes is_digit starts_plain refl d lt e) (apart_bytes is_digit is_word_start refl d lt e) e refl refl
+    ∙ ap (λ t. or_label (when t kinds.Int) (d ∷ ds)) h
+
+-- ---- what is undone has bytes
+
+hex_small : (b : ℕ) → nat_lt b 256 ≡ true → is_hex b ≡ true → hex_value b < 16
+hex_small b lt h = ltb-true (hex_value b) 16 (within_bytes is_hex (λ b. nat_lt (hex_value b) 16) refl b lt h)
+
+pair_small : (b c : ℕ) → nat_lt b 256 ≡ true → nat_lt c 256 ≡ true → (x y z : Bool) → is_hex b ≡ y → is_hex c ≡ z → (x && y && z) ≡ true → nat_lt (16 * hex_value b + hex_value c) 256 ≡ true
+pair_small b c hb hc true true true qb qc e = let u = hex_small b hb qb in let v = hex_small c hc qc in lt-ltb (16 * hex_value b + hex_value c) 256 (omega (arith, u, v))
+pair_small b c hb hc true true false qb qc e = absurd cc
+pair_small b c hb hc true false z qb qc e = absurd cc
+pair_small b c hb hc false y z qb qc e = absurd cc
+
+undone_bytes : (bs : List ℕ) → are_bytes bs ≡ true → are_bytes (unescaped bs) ≡ true
+undone_bytes [] h = refl
+undone_bytes (a ∷ []) h = h
+undone_bytes (a ∷ b ∷ []) h = go (a == 92 && b == 92)
+  where
+    go : (t : Bool) → are_bytes (cond t (92 ∷ []) (a ∷ b ∷ [])) ≡ true
+    go true = refl
+    go false = h
+undone_bytes (a ∷ b ∷ c ∷ rest) h =
+    let ha = and_left (nat_lt a 256) _ h in
+    let hs = and_right (nat_lt a 256) _ h in
+    let hb = and_left (nat_lt b 256) _ hs in
+    let hr = and_right (nat_lt b 256) _ hs in
+    let hc = and_left (nat_lt c 256) _ hr in
+    go ha hb hc (undone_bytes (c ∷ rest) hr) (undone_bytes rest (and_right (nat_lt c 256) _ hr)) (undone_bytes (b ∷ c ∷ rest) hs) (a == 92 && b == 92) (a == 92 && is_hex b && is_hex c) refl
+  where
+    go : nat_lt a 256 ≡ true → nat_lt b 256 ≡ true → nat_lt c 256 ≡ true → are_bytes (unescaped (c ∷ rest)) ≡ true → are_bytes (unescaped rest) ≡ true → are_bytes (unescaped (b ∷ c ∷ rest)) ≡ true
+        → (t u : Bool) → (a == 92 && is_hex b && is_hex c) ≡ u → are_bytes (cond t (92 ∷ unescaped (c ∷ rest)) (cond u ((16 * hex_value b + hex_value c) ∷ unescaped rest) (a ∷ unescaped (b ∷ c ∷ rest)))) ≡ true
+    go ha hb hc one two three true u q = one
+    go ha hb hc one two three false true q = both _ _ (pair_small b c hb hc (a == 92) (is_hex b) (is_hex c) refl refl q) two
+    go ha hb hc one two three false false q = both (nat_lt a 256) _ ha three
+
+front_bytes : (bs : List ℕ) → are_bytes bs ≡ true → are_bytes (without_last bs) ≡ true
+front_bytes [] h = refl
+front_bytes (a ∷ []) h = refl
+front_bytes (a ∷ b ∷ bs) h = both (nat_lt a 256) _ (and_left (nat_lt a 256) _ h) (front_bytes (b ∷ bs) (and_right (nat_lt a 256) _ h))
+
+pub name_bytes : (bs : List ℕ) → are_bytes bs ≡ true → are_bytes (name_of bs) ≡ true
+name_bytes [] h = refl
+name_bytes (b ∷ bs) h = go (b == 34)
+  where
+    go : (t : Bool) → are_bytes (cond t (unescaped (without_last bs)) (b ∷ bs)) ≡ true
+    go true = undone_bytes (without_last bs) (front_bytes bs (and_right (nat_lt b 256) (are_bytes bs) h))
+    go false = h
+
+pub sigil_bytes : (bs : List ℕ) → are_bytes bs ≡ true → are_bytes (after_sigil bs) ≡ true
+sigil_bytes [] h = refl
+sigil_bytes (b ∷ bs) h = name_bytes bs (and_right (nat_lt b 256) (are_bytes bs) h)
+
+pub string_has_bytes : (bs : List ℕ) → are_bytes bs ≡ true → are_bytes (string_bytes bs) ≡ true
+string_has_bytes [] h = refl
+string_has_bytes (b ∷ bs) h = name_bytes bs (and_right (nat_lt b 256) (are_bytes bs) h)
+
+pub colon_bytes : (bs : List ℕ) → are_bytes bs ≡ true → are_bytes (before_colon bs) ≡ true
+colon_bytes bs h = name_bytes (without_last bs) (front_bytes bs h)

@@ -33,6 +33,10 @@ or {A = A} {d = d} {e = e} {Result = Result} P Q = record { told = λ a w h x. g
     go a w h (inl x) = P.told a w h x
     go a w h (inr x) = Q.told a w h x
 
+-- what follows from it
+pub told_as : {A : Type 0} {derives : A → List Piece → Type 0} {Fact Result : A → Type 0} → ((a : A) → Fact a → Result a) → Tells derives Fact → Tells derives Result
+told_as f P = record { told = λ a w h d. f a (P.told a w h d) }
+
 pub token_tells : {A : Type 0} {Result : A → Type 0} (value : Piece → Option A) → ((p : Piece) (a : A) → are_bytes p.text ≡ true → value p ≡ Some a → Result a) → Tells (one value).derives Result
 token_tells value f = record { told = λ a w h d. f d.0 a (subst HaveBytes d.1 h).0 d.2 }
 
