@@ -6,3 +6,7 @@ pub mod Numbers
 pub mod Lists
 pub mod Types
 pub mod Values
+pub mod Constants
+pub mod Operations
+pub mod Lines
+pub mod Terminators
