@@ -10,3 +10,4 @@ pub mod Constants
 pub mod Operations
 pub mod Lines
 pub mod Terminators
+pub mod Blocks
