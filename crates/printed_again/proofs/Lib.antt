@@ -11,3 +11,6 @@ pub mod Operations
 pub mod Lines
 pub mod Terminators
 pub mod Blocks
+pub mod Module
+pub mod Renumbered
+pub mod Law

@@ -45,6 +45,25 @@ pub decimal_digits : (n : ℕ) → are_digits (decimal n) ≡ true
 unfolding digits
 decimal_digits n = onto_digits 64 n [] refl
 
+-- and never nothing
+onto_some : (k n d : ℕ) (ds : List ℕ) → digits_onto k 10 false n (d ∷ ds) ≡ [] → ⊥
+onto_some zero n d ds e = cc
+onto_some (suc k) n d ds e = go (λ h. onto_some k (n / 10) (digit_glyph false (n % 10)) (d ∷ ds) h) (n / 10 == 0) e
+  where
+    go : (digits_onto k 10 false (n / 10) (digit_glyph false (n % 10) ∷ d ∷ ds) ≡ [] → ⊥) → (b : Bool)
+        → cond b (digit_glyph false (n % 10) ∷ d ∷ ds) (digits_onto k 10 false (n / 10) (digit_glyph false (n % 10) ∷ d ∷ ds)) ≡ [] → ⊥
+    go later true h = cc
+    go later false h = later h
+
+pub decimal_not_empty : (n : ℕ) → decimal n ≡ [] → ⊥
+unfolding digits
+decimal_not_empty n e = go (λ h. onto_some 63 (n / 10) (digit_glyph false (n % 10)) [] h) (n / 10 == 0) e
+  where
+    go : (digits_onto 63 10 false (n / 10) (digit_glyph false (n % 10) ∷ []) ≡ [] → ⊥) → (b : Bool)
+        → cond b (digit_glyph false (n % 10) ∷ []) (digits_onto 63 10 false (n / 10) (digit_glyph false (n % 10) ∷ [])) ≡ [] → ⊥
+    go later true h = cc
+    go later false h = later h
+
 pub decimal_value : (n : ℕ) → n < 2 ^ 64 → digits_value 0 (decimal n) ≡ n
 decimal_value n lt = digits_value-decimal own n lt
 
