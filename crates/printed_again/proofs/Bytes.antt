@@ -3,6 +3,7 @@ use Rattle.std.proofs.Common.{◌≡◌, ℕ, zero, suc, ◌+◌, ◌*◌, ◌/�
 use Rattle.std.specs.Prelude.{codes}
 use Rattle.std.proofs.lemmas.Bool.{eqb-false}
 use Rattle.ir_lexer.specs.Forms.{same, runs_to, is_digit, is_word_byte, is_name_byte, is_quoted, is_number, is_unquoted}
+use Rattle.phrases.proofs.Classes.{and_left, and_right}
 use Rattle.ir_grammar.specs.Tokens.{are_digits}
 use Rattle.printed_again.specs.Again.{are_bytes}
 
@@ -11,14 +12,6 @@ use Rattle.printed_again.specs.Again.{are_bytes}
 abbrev pub all_below : ℕ → (ℕ → Bool) → Bool
 all_below zero f = true
 all_below (suc n) f = f n && all_below n f
-
-pub and_left : (a b : Bool) → (a && b) ≡ true → a ≡ true
-and_left true b e = refl
-and_left false b e = e
-
-pub and_right : (a b : Bool) → (a && b) ≡ true → b ≡ true
-and_right true b e = e
-and_right false b e = absurd cc
 
 pub both : (a b : Bool) → a ≡ true → b ≡ true → (a && b) ≡ true
 both a b e h = ap (λ x. x && b) e ∙ h

@@ -14,3 +14,5 @@ pub mod Blocks
 pub mod Module
 pub mod Renumbered
 pub mod Law
+pub mod Seen
+mod Examples

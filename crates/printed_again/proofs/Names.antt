@@ -7,7 +7,8 @@ use Rattle.ir_lexer.specs.Forms.{same, runs_to, is_digit, is_word_start, is_word
 use Rattle.ir_tree.specs.Texts.{hex_digit, escaped, quoted, name_text, global_text, local_text, label_text, string_text}
 use Rattle.ir_grammar.specs.Names.{is_hex, hex_value, unescaped, without_last, name_of, after_sigil, before_colon, string_bytes}
 use Rattle.printed_again.specs.Again.{are_bytes}
-use Rattle.printed_again.proofs.Bytes.{all_below, and_left, and_right, both, and_false, below, byte_below, apart_bytes, within_bytes, all_pass, runs_through, all_run, colon_stops, colon_closes}
+use Rattle.phrases.proofs.Classes.{and_left, and_right}
+use Rattle.printed_again.proofs.Bytes.{all_below, both, and_false, below, byte_below, apart_bytes, within_bytes, all_pass, runs_through, all_run, colon_stops, colon_closes}
 
 -- ---- escapes are undone
 
@@ -24,18 +25,6 @@ pub hex_undone : (c d : ℕ) (rest : List ℕ) → (c == 92) ≡ false → is_he
 hex_undone c d rest e h k =
     ap (λ t. cond t (92 ∷ unescaped (d ∷ rest)) (cond (is_hex c && is_hex d) ((16 * hex_value c + hex_value d) ∷ unescaped rest) (92 ∷ unescaped (c ∷ d ∷ rest)))) e
     ∙ ap (λ t. cond t ((16 * hex_value c + hex_value d) ∷ unescaped rest) (92 ∷ unescaped (c ∷ d ∷ rest))) (both (is_hex c) (is_hex d) h k)
-
-not_is : (b : Bool) → not b ≡ true → b ≡ false
-not_is false e = refl
-not_is true e = absurd cc
-
-or_right_false : (a b : Bool) → (a || b) ≡ false → b ≡ false
-or_right_false false b e = e
-or_right_false true b e = absurd cc
-
-or_left_false : (a b : Bool) → (a || b) ≡ false → a ≡ false
-or_left_false false b e = refl
-or_left_false true b e = absurd cc
 
 -- the four facts of a hexadecimal digit
 pub record IsHexDigit (n : ℕ) : Type 0 where

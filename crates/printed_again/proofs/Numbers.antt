@@ -15,7 +15,8 @@ use Rattle.ir_grammar.specs.Tokens.{an_int, integer_type, are_digits, is_plain_n
 use Rattle.ir_grammar.specs.Numbers.{digits_value, signed, written, fits_width, fits_any, fits_offset, fits_length, fits_index, int_in, number_after_i, width_of}
 use Rattle.ir_grammar.specs.Types.{int, width}
 use Rattle.ir_grammar.specs.Constants.{placed}
-use Rattle.printed_again.proofs.Bytes.{and_left, and_right, both, all_pass, all_run, digits_pass, digit_small, digit_in_word, pass_within}
+use Rattle.phrases.proofs.Classes.{and_left, and_right}
+use Rattle.printed_again.proofs.Bytes.{both, all_pass, all_run, digits_pass, digit_small, digit_in_word, pass_within}
 use Rattle.printed_again.proofs.Names.{digits_kind}
 use Rattle.printed_again.proofs.Backs.{Back, token, single}
 use Rattle.printed_again.proofs.Tells.{Tells, token_tells}

@@ -49,7 +49,3 @@ each_from {S} {A} item next {Fact} P u = record { told = λ vs w h d. go u vs w 
 
 pub each : {A : Type 0} (p : Phrase A) {Fact : A → Type 0} → Tells p.derives Fact → Tells (many [] p).derives (AllByRecursion Fact)
 each p P = each_from (λ (_ : Unit {0}). p) (λ _ _. tt) (λ _. P) tt
-
--- nothing is asked
-pub any_told : {A : Type 0} {derives : A → List Piece → Type 0} → Tells derives (λ a. Unit {0})
-any_told = record { told = λ a w h d. tt }

@@ -16,14 +16,13 @@ use Rattle.ir_tree.specs.Spelling.{separated, opening, closing, type_level, type
 use Rattle.ir_tree.specs.Places.{bare_name, bare_level, bare_type}
 use Rattle.phrases.specs.Piece.{Piece, Class, matches, among, same_text}
 use Rattle.phrases.specs.Phrase.{Phrase, one}
-use Rattle.phrases.proofs.Classes.{same_text-is}
+use Rattle.phrases.proofs.Classes.{and_left, and_right, same_text-is}
 use Rattle.phrases.proofs.Combinators.{self}
 use Rattle.ir_grammar.specs.Tokens.{number_of, a_local, a_global, a_label, word, mark}
 use Rattle.ir_grammar.specs.Numbers.{fits_length, width_of}
 use Rattle.ir_grammar.specs.Names.{name_in, after_sigil, before_colon}
 use Rattle.ir_grammar.specs.Types.{global_name, local_name, label_name, int, integer_or, type_of, value_type, scalar_words, scalar_of, scalar_type, plain_of, array_type, struct_type, mem_type, width_in, width_at}
 use Rattle.printed_again.specs.Again.{are_bytes}
-use Rattle.printed_again.proofs.Bytes.{and_left, and_right}
 use Rattle.printed_again.proofs.Names.{name_again, global_is, local_is, label_is, label_again, sigil_bytes, colon_bytes}
 use Rattle.printed_again.proofs.Numbers.{Fits, IsWidth, when_some, length_bounded, int_tells, int_back, width_of_tells, width_kind, width_again}
 use Rattle.printed_again.proofs.Backs.{Back, bind, ends, gives, alike, left, right, token, single, Any, the_word, the_mark, places}
