@@ -253,40 +253,48 @@ takes : {X : Type 0} (make : X → Entity) (pick : List Entity → List X) → (
 takes make pick f [] es = refl
 takes make pick f (x ∷ xs) es = f x (map make xs ++ es) ∙ ap (λ ys. x ∷ ys) (takes make pick f xs es)
 
+abbrev whole_tree : List TypeDefinition → List GlobalDefinition → List Header → List FunctionDefinition → IrTree
+whole_tree ds gs hs fs = record { types = ds; globals = gs; declares = hs; functions = fs }
+
 abbrev groups : List TypeDefinition → List GlobalDefinition → List Header → List FunctionDefinition → List Entity
 groups ds gs hs fs = map a_type ds ++ (map a_global_definition gs ++ (map a_declare hs ++ (map a_function fs ++ [])))
 
-picked : (ds : List TypeDefinition) (gs : List GlobalDefinition) (hs : List Header) (fs : List FunctionDefinition) → a_tree (groups ds gs hs fs) ≡ record { types = ds; globals = gs; declares = hs; functions = fs }
-picked ds gs hs fs =
-    let ts : types_of (groups ds gs hs fs) ≡ ds =
-      takes a_type types_of (λ x es. refl) ds (map a_global_definition gs ++ (map a_declare hs ++ (map a_function fs ++ [])))
-      ∙ ap (λ r. ds ++ r) (passes a_global_definition types_of (λ x es. refl) gs (map a_declare hs ++ (map a_function fs ++ [])) ∙ passes a_declare types_of (λ x es. refl) hs (map a_function fs ++ []) ∙ passes a_function types_of (λ x es. refl) fs [])
-      ∙ append-nil ds
-    in
-    let vs : globals_of (groups ds gs hs fs) ≡ gs =
-      passes a_type globals_of (λ x es. refl) ds (map a_global_definition gs ++ (map a_declare hs ++ (map a_function fs ++ [])))
-      ∙ takes a_global_definition globals_of (λ x es. refl) gs (map a_declare hs ++ (map a_function fs ++ []))
-      ∙ ap (λ r. gs ++ r) (passes a_declare globals_of (λ x es. refl) hs (map a_function fs ++ []) ∙ passes a_function globals_of (λ x es. refl) fs [])
-      ∙ append-nil gs
-    in
-    let cs : declares_of (groups ds gs hs fs) ≡ hs =
-      passes a_type declares_of (λ x es. refl) ds (map a_global_definition gs ++ (map a_declare hs ++ (map a_function fs ++ [])))
-      ∙ passes a_global_definition declares_of (λ x es. refl) gs (map a_declare hs ++ (map a_function fs ++ []))
-      ∙ takes a_declare declares_of (λ x es. refl) hs (map a_function fs ++ [])
-      ∙ ap (λ r. hs ++ r) (passes a_function declares_of (λ x es. refl) fs [])
-      ∙ append-nil hs
-    in
-    let us : functions_of (groups ds gs hs fs) ≡ fs =
-      passes a_type functions_of (λ x es. refl) ds (map a_global_definition gs ++ (map a_declare hs ++ (map a_function fs ++ [])))
-      ∙ passes a_global_definition functions_of (λ x es. refl) gs (map a_declare hs ++ (map a_function fs ++ []))
-      ∙ passes a_declare functions_of (λ x es. refl) hs (map a_function fs ++ [])
-      ∙ takes a_function functions_of (λ x es. refl) fs []
-      ∙ append-nil fs
-    in
-    ap (λ x. record { types = x; globals = globals_of (groups ds gs hs fs); declares = declares_of (groups ds gs hs fs); functions = functions_of (groups ds gs hs fs) }) ts
-    ∙ ap (λ x. record { types = ds; globals = x; declares = declares_of (groups ds gs hs fs); functions = functions_of (groups ds gs hs fs) }) vs
-    ∙ ap (λ x. record { types = ds; globals = gs; declares = x; functions = functions_of (groups ds gs hs fs) }) cs
-    ∙ ap (λ x. record { types = ds; globals = gs; declares = hs; functions = x }) us
+module _ (ds : List TypeDefinition) (gs : List GlobalDefinition) (hs : List Header) (fs : List FunctionDefinition) where
+  abbrev last : List Entity
+  last = map a_function fs ++ []
+
+  abbrev last_two : List Entity
+  last_two = map a_declare hs ++ last
+
+  abbrev last_three : List Entity
+  last_three = map a_global_definition gs ++ last_two
+
+  picked_types : types_of (groups ds gs hs fs) ≡ ds
+  picked_types =
+      takes a_type types_of (λ x es. refl) ds last_three
+      ∙ ap (λ r. ds ++ r) (passes a_global_definition types_of (λ x es. refl) gs last_two ∙ passes a_declare types_of (λ x es. refl) hs last ∙ passes a_function types_of (λ x es. refl) fs []) ∙ append-nil ds
+
+  picked_globals : globals_of (groups ds gs hs fs) ≡ gs
+  picked_globals =
+      passes a_type globals_of (λ x es. refl) ds last_three ∙ takes a_global_definition globals_of (λ x es. refl) gs last_two
+      ∙ ap (λ r. gs ++ r) (passes a_declare globals_of (λ x es. refl) hs last ∙ passes a_function globals_of (λ x es. refl) fs []) ∙ append-nil gs
+
+  picked_declares : declares_of (groups ds gs hs fs) ≡ hs
+  picked_declares =
+      passes a_type declares_of (λ x es. refl) ds last_three ∙ passes a_global_definition declares_of (λ x es. refl) gs last_two ∙ takes a_declare declares_of (λ x es. refl) hs last
+      ∙ ap (λ r. hs ++ r) (passes a_function declares_of (λ x es. refl) fs []) ∙ append-nil hs
+
+  picked_functions : functions_of (groups ds gs hs fs) ≡ fs
+  picked_functions =
+      passes a_type functions_of (λ x es. refl) ds last_three ∙ passes a_global_definition functions_of (λ x es. refl) gs last_two ∙ passes a_declare functions_of (λ x es. refl) hs last
+      ∙ takes a_function functions_of (λ x es. refl) fs [] ∙ append-nil fs
+
+  picked : a_tree (groups ds gs hs fs) ≡ whole_tree ds gs hs fs
+  picked =
+      ap (λ x. whole_tree x (globals_of (groups ds gs hs fs)) (declares_of (groups ds gs hs fs)) (functions_of (groups ds gs hs fs))) picked_types
+      ∙ ap (λ x. whole_tree ds x (declares_of (groups ds gs hs fs)) (functions_of (groups ds gs hs fs))) picked_globals
+      ∙ ap (λ x. whole_tree ds gs x (functions_of (groups ds gs hs fs))) picked_declares
+      ∙ ap (whole_tree ds gs hs) picked_functions
 
 -- ---- the module
 
@@ -333,36 +341,33 @@ record AreGroups (t : IrTree) (es : List Entity) : Type 0 where
   same_declares : map bare_header declares ≡ map bare_header t.declares
   same_functions : map bare_function functions ≡ map bare_function t.functions
 
-abbrev bare_tree : List TypeDefinition → List GlobalDefinition → List Header → List FunctionDefinition → IrTree
-bare_tree ds gs hs fs = record { types = ds; globals = gs; declares = hs; functions = fs }
-
 tree_like : (t : IrTree) (es : List Entity) → AreGroups t es → without_places (a_tree es) ≡ without_places t
 tree_like t es g =
     ap (λ x. without_places (a_tree x)) g.whole ∙ ap without_places (picked g.types g.globals g.declares g.functions)
-    ∙ ap (λ x. bare_tree x (map bare_global g.globals) (map bare_header g.declares) (map bare_function g.functions)) g.same_types
-    ∙ ap (λ x. bare_tree (map bare_definition t.types) x (map bare_header g.declares) (map bare_function g.functions)) g.same_globals
-    ∙ ap (λ x. bare_tree (map bare_definition t.types) (map bare_global t.globals) x (map bare_function g.functions)) g.same_declares
-    ∙ ap (λ x. bare_tree (map bare_definition t.types) (map bare_global t.globals) (map bare_header t.declares) x) g.same_functions
+    ∙ ap (λ x. whole_tree x (map bare_global g.globals) (map bare_header g.declares) (map bare_function g.functions)) g.same_types
+    ∙ ap (λ x. whole_tree (map bare_definition t.types) x (map bare_header g.declares) (map bare_function g.functions)) g.same_globals
+    ∙ ap (λ x. whole_tree (map bare_definition t.types) (map bare_global t.globals) x (map bare_function g.functions)) g.same_declares
+    ∙ ap (λ x. whole_tree (map bare_definition t.types) (map bare_global t.globals) (map bare_header t.declares) x) g.same_functions
 
-abbrev Types : IrTree → List Entity → Type 0
-Types t es = IsGroup a_type bare_definition type_texts t.types es
+abbrev AreTypes : IrTree → List Entity → Type 0
+AreTypes t es = IsGroup a_type bare_definition type_texts t.types es
 
-abbrev Globals : IrTree → List Entity → Type 0
-Globals t es = IsGroup a_global_definition bare_global global_texts t.globals es
+abbrev AreGlobals : IrTree → List Entity → Type 0
+AreGlobals t es = IsGroup a_global_definition bare_global global_texts t.globals es
 
-abbrev Declares : IrTree → List Entity → Type 0
-Declares t es = IsGroup a_declare bare_header declare_texts t.declares es
+abbrev AreDeclares : IrTree → List Entity → Type 0
+AreDeclares t es = IsGroup a_declare bare_header declare_texts t.declares es
 
-abbrev Functions : IrTree → List Entity → Type 0
-Functions t es = IsGroup a_function bare_function define_texts t.functions es
+abbrev AreFunctions : IrTree → List Entity → Type 0
+AreFunctions t es = IsGroup a_function bare_function define_texts t.functions es
 
 abbrev LastTwo : IrTree → List Entity → Type 0
-LastTwo t es = (hs : List Entity) × (fs : List Entity) × (es ≡ hs ++ fs) × Declares t hs × Functions t fs
+LastTwo t es = (hs : List Entity) × (fs : List Entity) × (es ≡ hs ++ fs) × AreDeclares t hs × AreFunctions t fs
 
 abbrev LastThree : IrTree → List Entity → Type 0
-LastThree t es = (gs : List Entity) × (rest : List Entity) × (es ≡ gs ++ rest) × Globals t gs × LastTwo t rest
+LastThree t es = (gs : List Entity) × (rest : List Entity) × (es ≡ gs ++ rest) × AreGlobals t gs × LastTwo t rest
 
-all_groups : (t : IrTree) (ds rest : List Entity) → Types t ds → LastThree t rest → AreGroups t (ds ++ rest)
+all_groups : (t : IrTree) (ds rest : List Entity) → AreTypes t ds → LastThree t rest → AreGroups t (ds ++ rest)
 all_groups t ds rest D R =
     let last = R.4 in
     record {
@@ -382,9 +387,9 @@ tree_back : (t : IrTree) → AllByRecursion TypeItem t.types → AllByRecursion 
     → Back module_text.derives (token_texts (printing.lines t)) (λ u. without_places u ≡ without_places t)
 unfolding module_text
 tree_back t D G H F =
-    let last = groups_back {Like = Declares t} {Good = Functions t} {All = LastTwo t} (group_back a_declare bare_header declare_texts t.declares H) (group_back a_function bare_function define_texts t.functions F) (λ hs fs h f. (hs, fs, refl, h, f)) in
-    let three = groups_back {Like = Globals t} {Good = LastTwo t} {All = LastThree t} (group_back a_global_definition bare_global global_texts t.globals G) last (λ gs rest g r. (gs, rest, refl, g, r)) in
-    let all = groups_back {Like = Types t} {Good = LastThree t} {All = AreGroups t} (group_back a_type bare_definition type_texts t.types D) three (λ ds rest d r. all_groups t ds rest d r) in
+    let last = groups_back {Like = AreDeclares t} {Good = AreFunctions t} {All = LastTwo t} (group_back a_declare bare_header declare_texts t.declares H) (group_back a_function bare_function define_texts t.functions F) (λ hs fs h f. (hs, fs, refl, h, f)) in
+    let three = groups_back {Like = AreGlobals t} {Good = LastTwo t} {All = LastThree t} (group_back a_global_definition bare_global global_texts t.globals G) last (λ gs rest g r. (gs, rest, refl, g, r)) in
+    let all = groups_back {Like = AreTypes t} {Good = LastThree t} {All = AreGroups t} (group_back a_type bare_definition type_texts t.types D) three (λ ds rest d r. all_groups t ds rest d r) in
     moved (tree_texts t) (ends all (λ es g. gives (a_tree es) (tree_like t es g)))
 
 pub module_back : (t : IrTree) → ModuleFact t → Back module_text.derives (token_texts (printing.lines (numbered t))) (λ u. without_places u ≡ without_places (numbered t))
