@@ -1,11 +1,10 @@
 -- Phrases that read tokens of given texts, whatever their places: one lemma a combinator.
-use Rattle.std.proofs.Common.{◌≡◌, ℕ, Bool, true, false, cond, ◌||◌, ◌&&◌, List, [], ◌∷◌, ◌++◌, ◌⊎◌, Option, Some, None, inl, inr, refl, sym, ap, subst, ◌∙◌, append-nil}
-use Rattle.std.specs.Prelude.{codes, map}
+use Rattle.std.proofs.Common.{◌≡◌, ℕ, true, cond, List, [], ◌∷◌, ◌++◌, ◌⊎◌, Option, Some, None, inl, inr, refl, sym, ap, ◌∙◌, append-nil}
 use Rattle.ir_lexer.specs.declared.token.TokenKind.{TokenKind}
 use Rattle.ir_lexer.specs.declared.token.TokenKind.TheVariants as kinds
 use Rattle.ir_lexer.specs.Forms.{kind_of}
-use Rattle.phrases.specs.Piece.{Piece, Class, among, same_text}
-use Rattle.phrases.specs.Phrase.{Phrase, one, skip, place, done, chain, from_derive, many, skip_many}
+use Rattle.phrases.specs.Piece.{Piece, Class, among}
+use Rattle.phrases.specs.Phrase.{Phrase, one, skip, place, chain, from_derive, many, skip_many}
 use Rattle.phrases.proofs.Combinators.{self}
 use Rattle.ir_grammar.specs.Tokens.{number_of, word, mark}
 use Rattle.ir_grammar.specs.Types.{skip_word, skip_mark, place_of}
@@ -28,10 +27,10 @@ pub bind : {A B : Type 0} {first : A → List Piece → Type 0} {next : A → B 
     → Back first xs Like → ((a : A) → Like a → Back (next a) ys Good) → Back (chain first next) (xs ++ ys) Good
 bind {xs = xs} {ys = ys} P Q = record {
   read = λ ts s.
-    let r = split xs ys ts s in
-    let a = P.read r.0 r.3 in
-    let b = (Q a.0 a.2).read r.1 r.4 in
-    (b.0, (a.0, r.0, r.1, r.2, a.1, b.1), b.2);
+      let r = split xs ys ts s in
+      let a = P.read r.0 r.3 in
+      let b = (Q a.0 a.2).read r.1 r.4 in
+      (b.0, (a.0, r.0, r.1, r.2, a.1, b.1), b.2);
 }
 
 -- and nothing after it
@@ -39,9 +38,9 @@ pub ends : {A B : Type 0} {first : A → List Piece → Type 0} {next : A → B 
     → Back first xs Like → ((a : A) → Like a → Back (next a) [] Good) → Back (chain first next) xs Good
 ends P Q = record {
   read = λ ts s.
-    let a = P.read ts s in
-    let b = (Q a.0 a.2).read [] tt in
-    (b.0, (a.0, ts, [], sym (append-nil ts), a.1, b.1), b.2);
+      let a = P.read ts s in
+      let b = (Q a.0 a.2).read [] tt in
+      (b.0, (a.0, ts, [], sym (append-nil ts), a.1, b.1), b.2);
 }
 
 abbrev pub is_done : {A : Type 0} → A → A → List Piece → Type 0
@@ -118,10 +117,10 @@ pub more_from : {S A : Type 0} (item : S → Phrase A) (next : S → A → S) (u
     → Back (item u).derives xs Like → ((a : A) → Like a → Back (from_derive item next (next u a)) ys Good) → ((a : A) (vs : List A) → Like a → Good vs → All (a ∷ vs)) → Back (from_derive item next u) (xs ++ ys) All
 more_from item next u {xs} {ys} P Q f = record {
   read = λ ts s.
-    let r = split xs ys ts s in
-    let a = P.read r.0 r.3 in
-    let b = (Q a.0 a.2).read r.1 r.4 in
-    (a.0 ∷ b.0, (r.0, r.1, r.2, a.1, b.1), f a.0 b.0 a.2 b.2);
+      let r = split xs ys ts s in
+      let a = P.read r.0 r.3 in
+      let b = (Q a.0 a.2).read r.1 r.4 in
+      (a.0 ∷ b.0, (r.0, r.1, r.2, a.1, b.1), f a.0 b.0 a.2 b.2);
 }
 
 -- any number of the same

@@ -1,9 +1,7 @@
 -- Blocks, headers and functions are read again, with their numbers.
-use Rattle.std.proofs.Common.{◌≡◌, ℕ, Bool, true, false, List, [], ◌∷◌, ◌++◌, ◌⊎◌, Option, Some, None, refl, sym, ap, subst, ◌∙◌, append_assoc, append-nil}
+use Rattle.std.proofs.Common.{◌≡◌, ℕ, List, [], ◌∷◌, ◌++◌, Option, Some, None, refl, sym, ap, ◌∙◌, append_assoc, append-nil}
 use Rattle.std.specs.Prelude.{codes, map}
-use Rattle.std.specs.Fmt.{decimal}
 use Rattle.std.specs.List.{AllByRecursion}
-use Rattle.ir_lexer.specs.declared.token.TokenKind.TheVariants as kinds
 use Rattle.ir_tree.specs.declared.types.Name.{Name}
 use Rattle.ir_tree.specs.declared.types.IrType.{IrType}
 use Rattle.ir_tree.specs.declared.instructions.Instruction.{Instruction}
@@ -12,24 +10,22 @@ use Rattle.ir_tree.specs.declared.instructions.Terminator.{Terminator}
 use Rattle.ir_tree.specs.declared.instructions.Block.{Block}
 use Rattle.ir_tree.specs.declared.module.Parameter.{Parameter}
 use Rattle.ir_tree.specs.declared.module.Header.{Header}
-use Rattle.ir_tree.specs.Texts.{label_text, local_text, global_text}
-use Rattle.ir_tree.specs.Spelling.{separated, type_tokens, result_tokens, terminator_tokens}
-use Rattle.ir_tree.specs.Printing.{Line, plain, inner, name_tokens, parameter_tokens, header_tokens, label_lines, phi_line, instruction_line, block_lines, blocks_lines}
-use Rattle.ir_tree.specs.Places.{bare_name, bare_type, bare_phi, bare_instruction, bare_terminator, bare_block, bare_parameter, bare_header, on_some}
-use Rattle.phrases.specs.Piece.{Piece}
-use Rattle.phrases.specs.Phrase.{Phrase}
+use Rattle.ir_tree.specs.Texts.{label_text}
+use Rattle.ir_tree.specs.Spelling.{terminator_tokens}
+use Rattle.ir_tree.specs.Printing.{Line, inner, parameter_tokens, header_tokens, phi_line, instruction_line, block_lines, blocks_lines}
+use Rattle.ir_tree.specs.Places.{bare_name, bare_type, bare_phi, bare_instruction, bare_block, bare_parameter, bare_header, on_some}
 use Rattle.ir_grammar.specs.Words.{linkage_words}
 use Rattle.ir_grammar.specs.Types.{attribute_or}
-use Rattle.ir_grammar.specs.Numbering.{numbered_name, numbered_parameter, numbered_parameters, after_phis, numbered_instructions, with_names, numbered_blocks, with_parameters}
-use Rattle.ir_grammar.specs.Instructions.{Line as GrammarLine, a_phi, an_instruction, label, lines, phis_of, instructions_of, block}
+use Rattle.ir_grammar.specs.Numbering.{numbered_name, numbered_parameters, after_phis, numbered_instructions, numbered_blocks, with_parameters}
+use Rattle.ir_grammar.specs.Instructions.{Line as GrammarLine, label, phis_of, instructions_of, block}
 use Rattle.ir_grammar.specs.Module.{ignored, parameter, header}
 use Rattle.printed_again.specs.Again.{token_texts}
-use Rattle.printed_again.proofs.Backs.{Back, bind, ends, gives, alike, left, right, Any, the_mark, all_of, none, more, nothing}
-use Rattle.printed_again.proofs.Tells.{Tells, step, over, made, or, told_as, each}
+use Rattle.printed_again.proofs.Backs.{Back, bind, ends, gives, alike, left, Any, the_mark, all_of, none, more, nothing}
+use Rattle.printed_again.proofs.Tells.{Tells, step, over, made, or}
 use Rattle.printed_again.proofs.Lists.{moved, cons_like, listed_back, listed_tell}
 use Rattle.printed_again.proofs.Types.{IsName, SameName, global_back, global_tells, local_back, local_tells, label_back, label_tells, IsValueType, value_type_tells}
 use Rattle.printed_again.proofs.Operations.{attributes_back, tail_back, ResultBack, result_tells}
-use Rattle.printed_again.proofs.Lines.{number_name, LineBack, PhiBack, InstructionBack, AreLines, lines_tell, numbered_told, AreParts, parts_back, only_phis, only_instructions}
+use Rattle.printed_again.proofs.Lines.{number_name, LineBack, PhiBack, InstructionBack, lines_tell, numbered_told, AreParts, parts_back, only_phis, only_instructions}
 use Rattle.printed_again.proofs.Terminators.{TerminatorBack, SameTerminator, terminator_tells}
 
 -- ---- texts of lines
@@ -115,8 +111,7 @@ pub numbered_blocks_told : (at n : ℕ) (bs : List Block) → AllByRecursion Blo
 numbered_blocks_told at n [] h = tt
 numbered_blocks_told at n (b ∷ bs) h =
     let name = numbered_name at n b.label in
-    let k = after_phis name.1 b.phis in
-    (
+    let k = after_phis name.1 b.phis in (
       block_back name.0 b.phis (numbered_instructions at k b.instructions).0 b.terminator (numbered_is_name at n b.label h.0.label) h.0.phis (numbered_told at k b.instructions h.0.instructions) h.0.terminator,
       numbered_blocks_told at (numbered_instructions at k b.instructions).1 bs h.1,
     )

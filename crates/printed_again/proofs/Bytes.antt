@@ -1,8 +1,8 @@
 -- Facts of single bytes, computed, and of runs of them.
-use Rattle.std.proofs.Common.{◌≡◌, ℕ, zero, suc, ◌+◌, ◌*◌, ◌/◌, ◌%◌, ◌<◌, ◌≤◌, ◌^◌, Bool, true, false, cond, not, ◌||◌, ◌&&◌, ◌==◌, nat_le, nat_lt, List, [], ◌∷◌, ◌++◌, length, Option, Some, None, refl, sym, ap, subst, ◌∙◌, arith, append_assoc, ◌≢◌, eqb-true, ltb-true, lt-ltb, leb-true}
+use Rattle.std.proofs.Common.{◌≡◌, ℕ, zero, suc, ◌<◌, ◌≤◌, Bool, true, false, cond, not, ◌||◌, ◌&&◌, ◌==◌, nat_le, nat_lt, List, [], ◌∷◌, ◌++◌, refl, ap, ◌∙◌, arith, ◌≢◌, eqb-true, ltb-true, lt-ltb, leb-true}
 use Rattle.std.specs.Prelude.{codes}
 use Rattle.std.proofs.lemmas.Bool.{eqb-false}
-use Rattle.ir_lexer.specs.Forms.{same, runs_to, is_digit, is_word_byte, is_name_byte, is_quoted, is_number, is_unquoted}
+use Rattle.ir_lexer.specs.Forms.{same, runs_to, is_digit, is_word_byte}
 use Rattle.phrases.proofs.Classes.{and_left, and_right}
 use Rattle.ir_grammar.specs.Tokens.{are_digits}
 use Rattle.printed_again.specs.Again.{are_bytes}

@@ -1,7 +1,6 @@
 -- Constants of globals are read again.
-use Rattle.std.proofs.Common.{◌≡◌, ℕ, zero, suc, Bool, true, false, cond, List, [], ◌∷◌, ◌++◌, ◌⊎◌, Option, Some, None, refl, sym, ap, subst, ◌∙◌}
+use Rattle.std.proofs.Common.{◌≡◌, ℕ, zero, suc, Bool, true, false, List, [], ◌∷◌, ◌++◌, Some, refl, sym, ap, subst, ◌∙◌}
 use Rattle.std.specs.Prelude.{codes, map}
-use Rattle.std.specs.List.{AllByRecursion}
 use Rattle.ir_lexer.specs.declared.token.TokenKind.TheVariants as kinds
 use Rattle.ir_lexer.specs.Forms.{kind_of}
 use Rattle.ir_tree.specs.declared.types.IrType.{IrType}
@@ -13,22 +12,22 @@ use Rattle.ir_tree.specs.declared.constants.Constant.TheVariants as constants
 use Rattle.ir_tree.specs.Texts.{string_text}
 use Rattle.ir_tree.specs.Spelling.{separated, opening, closing, type_tokens, value_tokens, constant_level, constant_tokens}
 use Rattle.ir_tree.specs.Places.{bare_type, bare_value, bare_constant_level, bare_constant}
-use Rattle.phrases.specs.Piece.{Piece, Class, matches}
-use Rattle.phrases.specs.Phrase.{Phrase, one, either}
+use Rattle.phrases.specs.Piece.{matches}
+use Rattle.phrases.specs.Phrase.{Phrase, one}
 use Rattle.phrases.proofs.Combinators.{self}
-use Rattle.ir_grammar.specs.Tokens.{a_cstr, mark, square, brace, packed_brace}
+use Rattle.ir_grammar.specs.Tokens.{a_cstr, mark, square}
 use Rattle.ir_grammar.specs.Numbers.{fits_any}
 use Rattle.ir_grammar.specs.Names.{string_bytes}
-use Rattle.ir_grammar.specs.Types.{mem_type, nesting}
-use Rattle.ir_grammar.specs.Constants.{gep_word, simple_constant, gep_constant, string_of, array_constant, struct_constant, flat_constant, constant_of, typed_constant}
+use Rattle.ir_grammar.specs.Types.{nesting}
+use Rattle.ir_grammar.specs.Constants.{simple_constant, gep_constant, string_of, array_constant, struct_constant, flat_constant, constant_of, typed_constant}
 use Rattle.printed_again.specs.Again.{are_bytes}
 use Rattle.printed_again.proofs.Names.{string_is, string_again, string_has_bytes}
 use Rattle.printed_again.proofs.Numbers.{when_some, any_bounded}
-use Rattle.printed_again.proofs.Backs.{Back, bind, ends, gives, left, right, token, single, the_mark, places}
+use Rattle.printed_again.proofs.Backs.{Back, bind, ends, gives, left, right, single, places}
 use Rattle.printed_again.proofs.Tells.{Tells, step, over, made, or, told_as, token_tells}
 use Rattle.printed_again.proofs.Lists.{moved, listed_back, listed_tell}
-use Rattle.printed_again.proofs.Types.{SameType, TypeBack, mem_tells}
-use Rattle.printed_again.proofs.Values.{SameValue, GepOperandBack, gep_operand_tells, IsForm, simple_back, simple_tells}
+use Rattle.printed_again.proofs.Types.{SameType, mem_tells}
+use Rattle.printed_again.proofs.Values.{SameValue, gep_operand_tells, simple_back, simple_tells}
 
 -- ---- one level of a constant at a time
 
@@ -101,12 +100,11 @@ bytes_constant t at bytes h = record {
   rest = string_text bytes ∷ [];
   printed = tokens_bytes t at bytes;
   back = λ u e.
-    single (string_of u) (string_text bytes) kinds.CStr (string_is bytes h) (λ from.
-    (
-      constants.Bytes u from (string_bytes (string_text bytes)),
-      refl,
-      bare_of_bytes u from (string_bytes (string_text bytes)) ∙ ap (λ s. constants.Bytes (bare_type u) 0 s) (string_again bytes h) ∙ ap (λ k. constants.Bytes k 0 bytes) e ∙ sym (bare_of_bytes t at bytes),
-    ));
+      single (string_of u) (string_text bytes) kinds.CStr (string_is bytes h) (λ from. (
+        constants.Bytes u from (string_bytes (string_text bytes)),
+        refl,
+        bare_of_bytes u from (string_bytes (string_text bytes)) ∙ ap (λ s. constants.Bytes (bare_type u) 0 s) (string_again bytes h) ∙ ap (λ k. constants.Bytes k 0 bytes) e ∙ sym (bare_of_bytes t at bytes),
+      ));
 }
 
 string_tells : (t : IrType) → Tells (one (string_of t)).derives (IsConstant (λ u. one (string_of u)) t)
@@ -126,9 +124,9 @@ module _ (inner : Phrase Constant) where
         rest = codes "[" ∷ (separated (map constant_tokens cs) ++ codes "]" ∷ []);
         printed = tokens_array t at cs;
         back = λ u e.
-          bind (places (square ∷ []) (codes "[") kinds.Punct refl (λ _. refl)) (λ from _.
-          ends (listed_back inner constant_tokens bare_constant (codes "]") refl cs h) (λ ds eds.
-          gives (constants.Array u from ds) (bare_of_array u from ds ∙ ap (λ k. constants.Array k 0 (map bare_constant ds)) e ∙ ap (constants.Array (bare_type t) 0) eds ∙ sym (bare_of_array t at cs))));
+            bind (places (square ∷ []) (codes "[") kinds.Punct refl (λ _. refl)) (λ from _.
+            ends (listed_back inner constant_tokens bare_constant (codes "]") refl cs h) (λ ds eds.
+            gives (constants.Array u from ds) (bare_of_array u from ds ∙ ap (λ k. constants.Array k 0 (map bare_constant ds)) e ∙ ap (constants.Array (bare_type t) 0) eds ∙ sym (bare_of_array t at cs))));
       })))
 
   struct_constant_tells : (open_text close_text : List ℕ) (packed : Bool) → opening packed ≡ open_text → closing packed ≡ close_text → kind_of open_text ≡ Some kinds.Punct → kind_of close_text ≡ Some kinds.Punct
@@ -140,10 +138,10 @@ module _ (inner : Phrase Constant) where
         rest = open_text ∷ (separated (map constant_tokens cs) ++ close_text ∷ []);
         printed = tokens_struct t at cs packed ∙ ap (λ o. type_tokens t ++ o ∷ (separated (map constant_tokens cs) ++ closing packed ∷ [])) eo ∙ ap (λ c. type_tokens t ++ open_text ∷ (separated (map constant_tokens cs) ++ c ∷ [])) ec;
         back = λ u e.
-          bind (places (mark open_text ∷ []) open_text kinds.Punct ko (λ _. self open_text)) (λ from _.
-          ends (listed_back inner constant_tokens bare_constant close_text kc cs h) (λ ds eds.
-          gives (constants.Struct u from ds packed)
-          (bare_of_struct u from ds packed ∙ ap (λ k. constants.Struct k 0 (map bare_constant ds) packed) e ∙ ap (λ xs. constants.Struct (bare_type t) 0 xs packed) eds ∙ sym (bare_of_struct t at cs packed))));
+            bind (places (mark open_text ∷ []) open_text kinds.Punct ko (λ _. self open_text)) (λ from _.
+            ends (listed_back inner constant_tokens bare_constant close_text kc cs h) (λ ds eds.
+            gives (constants.Struct u from ds packed)
+            (bare_of_struct u from ds packed ∙ ap (λ k. constants.Struct k 0 (map bare_constant ds) packed) e ∙ ap (λ xs. constants.Struct (bare_type t) 0 xs packed) eds ∙ sym (bare_of_struct t at cs packed))));
       })))
 
 -- a phrase that reads at least as much

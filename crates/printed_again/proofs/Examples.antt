@@ -1,5 +1,5 @@
 -- Worked examples: the tokens that a small tree is printed as, and which tokens spell them.
-use Rattle.std.proofs.Common.{◌≡◌, ℕ, List, [], ◌∷◌, None, Some, refl}
+use Rattle.std.proofs.Common.{◌≡◌, [], ◌∷◌, None, refl}
 use Rattle.std.specs.Prelude.{codes}
 use Rattle.std.specs.Fmt.{digits}
 use Rattle.ir_lexer.specs.declared.token.TokenKind.TheVariants as kinds
@@ -7,7 +7,6 @@ use Rattle.ir_tree.specs.declared.module.IrTree.{IrTree}
 use Rattle.ir_tree.specs.declared.instructions.TerminatorForm.TheVariants as terminators
 use Rattle.ir_tree.specs.Texts.{quoted}
 use Rattle.ir_tree.specs.Printing.{lines}
-use Rattle.phrases.specs.Piece.{Piece}
 use Rattle.ir_grammar.specs.Tokens.{number_of}
 use Rattle.ir_grammar.specs.Names.{name_of}
 use Rattle.ir_grammar.specs.Numbering.{numbered}

@@ -1,5 +1,4 @@
 -- What is printed is read again.
-use Rattle.std.proofs.Common.{◌≡◌, List}
 use Rattle.printed_again.specs.Again.{IsSpelledAgain}
 use Rattle.printed_again.proofs.Module.{module_tells, module_back}
 use Rattle.printed_again.proofs.Renumbered.{tree_again}

@@ -1,5 +1,5 @@
 -- Instructions and phis are read again, with the numbers of their results.
-use Rattle.std.proofs.Common.{◌≡◌, ℕ, Bool, true, false, List, [], ◌∷◌, ◌++◌, ◌⊎◌, Option, Some, None, refl, sym, ap, subst, ◌∙◌, append_assoc}
+use Rattle.std.proofs.Common.{◌≡◌, ℕ, Bool, true, false, List, [], ◌∷◌, ◌++◌, Option, Some, None, refl, sym, ap, subst, ◌∙◌, append_assoc}
 use Rattle.std.specs.Prelude.{codes, map}
 use Rattle.std.specs.Fmt.{decimal}
 use Rattle.std.specs.List.{AllByRecursion}
@@ -11,24 +11,22 @@ use Rattle.ir_tree.specs.declared.instructions.Operation.TheVariants as operatio
 use Rattle.ir_tree.specs.declared.instructions.Instruction.{Instruction}
 use Rattle.ir_tree.specs.declared.instructions.Incoming.{Incoming}
 use Rattle.ir_tree.specs.declared.instructions.Phi.{Phi}
-use Rattle.ir_tree.specs.Texts.{local_text}
-use Rattle.ir_tree.specs.Spelling.{others, separated, type_tokens, operation_tokens, instruction_tokens, incoming_tokens, phi_tokens}
+use Rattle.ir_tree.specs.Spelling.{instruction_tokens, incoming_tokens, phi_tokens}
 use Rattle.ir_tree.specs.Printing.{phi_line, instruction_line}
-use Rattle.ir_tree.specs.Places.{bare_name, bare_type, bare_value, bare_operation, bare_instruction, bare_incoming, bare_phi, on_some}
-use Rattle.phrases.specs.Piece.{Piece}
-use Rattle.phrases.specs.Phrase.{Phrase, either, from_derive}
+use Rattle.ir_tree.specs.Places.{bare_name, bare_type, bare_value, bare_operation, bare_instruction, bare_incoming, bare_phi}
+use Rattle.phrases.specs.Phrase.{either, from_derive}
 use Rattle.ir_grammar.specs.Tokens.{word, square}
 use Rattle.ir_grammar.specs.Numbering.{has_result, numbered_result, with_result, numbered_instructions}
-use Rattle.ir_grammar.specs.Instructions.{store, call_at, call, call_alone, operation, incoming, Line, a_phi, an_instruction, phi, set, named_line, plain_line, line, phis_after, lines, phis_of, instructions_of}
-use Rattle.printed_again.specs.Again.{are_bytes, token_texts}
+use Rattle.ir_grammar.specs.Instructions.{store, call, call_alone, operation, incoming, Line, a_phi, an_instruction, phi, set, named_line, line, phis_after, lines, phis_of, instructions_of}
+use Rattle.printed_again.specs.Again.{token_texts}
 use Rattle.printed_again.proofs.Bytes.{digits_are_bytes}
 use Rattle.printed_again.proofs.Numbers.{decimal_digits}
 use Rattle.printed_again.proofs.Backs.{Back, bind, ends, gives, alike, left, right, the_word, the_mark, the_place, none_from, more_from}
 use Rattle.printed_again.proofs.Tells.{Tells, step, over, made, or, told_as, each_from}
 use Rattle.printed_again.proofs.Lists.{moved, cons_like}
 use Rattle.printed_again.proofs.Types.{IsName, SameName, local_back, local_tells, IsValueType, value_type_tells, scalar_tells, scalar_back}
-use Rattle.printed_again.proofs.Values.{SameValue, pointer_tells}
-use Rattle.printed_again.proofs.Operations.{volatile_back, closes, OperandIn, in_type_tells, in_scalar_tells, in_type, SameOperation, OperationBack, operation_tells, CallBack, call_at_tells, untailed, items_tell, items_back}
+use Rattle.printed_again.proofs.Values.{pointer_tells}
+use Rattle.printed_again.proofs.Operations.{volatile_back, closes, in_type_tells, in_scalar_tells, in_type, SameOperation, OperationBack, operation_tells, CallBack, call_at_tells, untailed, items_tell, items_back}
 
 -- the name of a number
 pub number_name : (at n : ℕ) → IsName (record { text = decimal n; at = at })

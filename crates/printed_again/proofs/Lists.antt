@@ -1,5 +1,5 @@
 -- Lists with commas between their items.
-use Rattle.std.proofs.Common.{◌≡◌, ℕ, List, [], ◌∷◌, ◌++◌, Some, refl, sym, ap, subst, ◌∙◌, append_assoc, append-nil}
+use Rattle.std.proofs.Common.{◌≡◌, ℕ, List, [], ◌∷◌, ◌++◌, Some, refl, sym, ap, subst, ◌∙◌, append_assoc}
 use Rattle.std.specs.Prelude.{codes, map}
 use Rattle.std.specs.List.{AllByRecursion}
 use Rattle.ir_lexer.specs.declared.token.TokenKind.TheVariants as kinds

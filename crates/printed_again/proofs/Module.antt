@@ -1,5 +1,5 @@
 -- Modules are read again: types, globals, declares and functions, each group in its order.
-use Rattle.std.proofs.Common.{◌≡◌, ℕ, Bool, true, false, List, [], ◌∷◌, ◌++◌, ◌⊎◌, Option, Some, None, refl, sym, ap, subst, ◌∙◌, append_assoc, append-nil}
+use Rattle.std.proofs.Common.{◌≡◌, ℕ, List, [], ◌∷◌, ◌++◌, refl, sym, ap, subst, ◌∙◌, append_assoc, append-nil}
 use Rattle.std.specs.Prelude.{codes, map}
 use Rattle.std.specs.List.{AllByRecursion}
 use Rattle.ir_lexer.specs.declared.token.TokenKind.TheVariants as kinds
@@ -12,26 +12,24 @@ use Rattle.ir_tree.specs.declared.module.GlobalDefinition.{GlobalDefinition}
 use Rattle.ir_tree.specs.declared.module.Header.{Header}
 use Rattle.ir_tree.specs.declared.module.FunctionDefinition.{FunctionDefinition}
 use Rattle.ir_tree.specs.declared.module.IrTree.{IrTree}
-use Rattle.ir_tree.specs.Texts.{global_text, local_text}
-use Rattle.ir_tree.specs.Spelling.{joined, type_tokens, constant_tokens}
+use Rattle.ir_tree.specs.Spelling.{joined}
 use Rattle.ir_tree.specs.Printing.{Line, plain, type_line, global_line, header_tokens, declare_line, block_lines, blocks_lines, function_lines, functions_lines}
 use Rattle.ir_tree.specs.Printing as printing
 use Rattle.ir_tree.specs.Places.{bare_name, bare_type, bare_constant, bare_block, bare_definition, bare_global, bare_header, bare_function, without_places}
 use Rattle.phrases.specs.Piece.{Piece}
-use Rattle.phrases.specs.Phrase.{Phrase, from_derive}
 use Rattle.ir_grammar.specs.Tokens.{words}
 use Rattle.ir_grammar.specs.Types.{nesting}
 use Rattle.ir_grammar.specs.Numbering.{numbered_parameters, numbered_blocks, with_parameters, numbered_header, numbered_function, numbered}
 use Rattle.ir_grammar.specs.Instructions.{block}
-use Rattle.ir_grammar.specs.Module.{header, Entity, nothing, a_type, a_global_definition, a_declare, a_function, type_definition, global_definition, declare, define, entity, types_of, globals_of, declares_of, functions_of, module_text}
-use Rattle.printed_again.specs.Again.{Spell, token_texts}
-use Rattle.printed_again.proofs.Backs.{Back, split, bind, ends, gives, alike, left, right, Any, skips, the_word, the_mark, all_of, none, more}
+use Rattle.ir_grammar.specs.Module.{Entity, nothing, a_type, a_global_definition, a_declare, a_function, type_definition, global_definition, declare, define, entity, types_of, globals_of, declares_of, functions_of, module_text}
+use Rattle.printed_again.specs.Again.{token_texts}
+use Rattle.printed_again.proofs.Backs.{Back, split, bind, ends, gives, alike, left, right, skips, the_word, the_mark, all_of, none, more}
 use Rattle.printed_again.proofs.Tells.{Tells, step, over, made, or, told_as, each}
 use Rattle.printed_again.proofs.Lists.{moved, cons_like}
-use Rattle.printed_again.proofs.Types.{IsName, SameName, global_back, global_tells, local_back, local_tells, SameType, TypeBack, mem_tells}
-use Rattle.printed_again.proofs.Constants.{SameConstant, ConstantBack, typed_constant_tells}
-use Rattle.printed_again.proofs.Operations.{after_back, closes}
-use Rattle.printed_again.proofs.Blocks.{texts_append, BlockFact, block_tells, NamedBlock, numbered_blocks_told, blocks_back, ParameterBack, numbered_parameters_told, HeaderFact, header_tells, ignored_back, HeaderBack, header_back}
+use Rattle.printed_again.proofs.Types.{global_back, global_tells, local_back, local_tells, mem_tells}
+use Rattle.printed_again.proofs.Constants.{typed_constant_tells}
+use Rattle.printed_again.proofs.Operations.{closes}
+use Rattle.printed_again.proofs.Blocks.{texts_append, BlockFact, block_tells, NamedBlock, numbered_blocks_told, blocks_back, numbered_parameters_told, HeaderFact, header_tells, ignored_back, HeaderBack, header_back}
 
 -- ---- entities
 
@@ -62,11 +60,11 @@ type_tells =
       a_definition n t,
       refl,
       right (right (right (left
-      (bind (local_back n N) (λ m em.
-      bind (the_mark (codes "=") refl) (λ _ _.
-      bind (the_word (codes "type") refl) (λ _ _.
-      ends T (λ u eu.
-      gives (a_type (a_definition m u)) (a_definition m u, refl, ap (λ k. a_definition k (bare_type u)) em ∙ ap (a_definition (bare_name n)) eu))))))))),
+          (bind (local_back n N) (λ m em.
+          bind (the_mark (codes "=") refl) (λ _ _.
+          bind (the_word (codes "type") refl) (λ _ _.
+          ends T (λ u eu.
+          gives (a_type (a_definition m u)) (a_definition m u, refl, ap (λ k. a_definition k (bare_type u)) em ∙ ap (a_definition (bare_name n)) eu))))))))),
     )))))
 
 abbrev a_value : Name → Constant → GlobalDefinition
@@ -80,12 +78,12 @@ global_item_tells =
       a_value n c,
       refl,
       right (right (right (right (left
-      (bind (global_back n N) (λ m em.
-      bind (the_mark (codes "=") refl) (λ _ _.
-      bind ignored_back (λ _ _.
-      bind (skips (words (codes "global" ∷ codes "constant" ∷ [])) (codes "global") kinds.Word refl (λ at. refl)) (λ _ _.
-      ends C (λ d ed.
-      closes (a_global_definition (a_value m d)) (a_value m d, refl, ap (λ k. a_value k (bare_constant d)) em ∙ ap (a_value (bare_name n)) ed))))))))))),
+          (bind (global_back n N) (λ m em.
+          bind (the_mark (codes "=") refl) (λ _ _.
+          bind ignored_back (λ _ _.
+          bind (skips (words (codes "global" ∷ codes "constant" ∷ [])) (codes "global") kinds.Word refl (λ at. refl)) (λ _ _.
+          ends C (λ d ed.
+          closes (a_global_definition (a_value m d)) (a_value m d, refl, ap (λ k. a_value k (bare_constant d)) em ∙ ap (a_value (bare_name n)) ed))))))))))),
     )))))))
 
 declare_back : (h : Header) → HeaderBack h → DeclareItem h
@@ -238,10 +236,10 @@ all_append (x ∷ vs) us w v d e = (d.0, d.1 ++ v, ap (λ y. y ++ v) d.2 ∙ app
 groups_back : {xs ys : List (List ℕ)} {Like Good All : List Entity → Type 0} → Back (all_of entity) xs Like → Back (all_of entity) ys Good → ((vs us : List Entity) → Like vs → Good us → All (vs ++ us)) → Back (all_of entity) (xs ++ ys) All
 groups_back {xs} {ys} P Q f = record {
   read = λ ts s.
-    let r = split xs ys ts s in
-    let a = P.read r.0 r.3 in
-    let b = Q.read r.1 r.4 in
-    (a.0 ++ b.0, subst (λ w. all_of entity (a.0 ++ b.0) w) (sym r.2) (all_append a.0 b.0 r.0 r.1 a.1 b.1), f a.0 b.0 a.2 b.2);
+      let r = split xs ys ts s in
+      let a = P.read r.0 r.3 in
+      let b = Q.read r.1 r.4 in
+      (a.0 ++ b.0, subst (λ w. all_of entity (a.0 ++ b.0) w) (sym r.2) (all_append a.0 b.0 r.0 r.1 a.1 b.1), f a.0 b.0 a.2 b.2);
 }
 
 module _ {X Z : Type 0} (make : X → Entity) (pick : List Entity → List Z) where
@@ -376,7 +374,7 @@ all_groups t ds rest D R =
       declares = last.3.0;
       functions = last.4.0;
       whole =
-        ap (λ x. x ++ rest) D.1 ∙ ap (λ x. map a_type D.0 ++ x) (R.2 ∙ ap (λ x. x ++ R.1) R.3.1 ∙ ap (λ x. map a_global_definition R.3.0 ++ x) (last.2 ∙ ap (λ x. x ++ last.1) last.3.1 ∙ ap (λ x. map a_declare last.3.0 ++ x) (last.4.1 ∙ sym (append-nil (map a_function last.4.0)))));
+          ap (λ x. x ++ rest) D.1 ∙ ap (λ x. map a_type D.0 ++ x) (R.2 ∙ ap (λ x. x ++ R.1) R.3.1 ∙ ap (λ x. map a_global_definition R.3.0 ++ x) (last.2 ∙ ap (λ x. x ++ last.1) last.3.1 ∙ ap (λ x. map a_declare last.3.0 ++ x) (last.4.1 ∙ sym (append-nil (map a_function last.4.0)))));
       same_types = D.2;
       same_globals = R.3.2;
       same_declares = last.3.2;

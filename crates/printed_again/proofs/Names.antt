@@ -1,5 +1,5 @@
 -- Names and strings are printed so that they are read again, whatever bytes they have.
-use Rattle.std.proofs.Common.{◌≡◌, ℕ, zero, suc, ◌+◌, ◌*◌, ◌/◌, ◌%◌, ◌<◌, ◌≤◌, Bool, true, false, cond, not, ◌||◌, ◌&&◌, ◌==◌, nat_le, nat_lt, List, [], ◌∷◌, ◌++◌, Option, Some, None, refl, sym, ap, subst, ◌∙◌, arith, append_assoc, eqb-true, ltb-true, lt-ltb, mod-lt, div-add-mod', div-lt_iff_lt-mul}
+use Rattle.std.proofs.Common.{◌≡◌, ℕ, ◌+◌, ◌*◌, ◌/◌, ◌%◌, ◌<◌, Bool, true, false, cond, not, ◌||◌, ◌&&◌, ◌==◌, nat_lt, List, [], ◌∷◌, ◌++◌, Option, Some, None, refl, sym, ap, subst, ◌∙◌, arith, append_assoc, eqb-true, ltb-true, lt-ltb, div-add-mod'}
 use Rattle.std.specs.Prelude.{codes}
 use Rattle.ir_lexer.specs.declared.token.TokenKind.{TokenKind}
 use Rattle.ir_lexer.specs.declared.token.TokenKind.TheVariants as kinds
@@ -8,7 +8,7 @@ use Rattle.ir_tree.specs.Texts.{hex_digit, escaped, quoted, name_text, global_te
 use Rattle.ir_grammar.specs.Names.{is_hex, hex_value, unescaped, without_last, name_of, after_sigil, before_colon, string_bytes}
 use Rattle.printed_again.specs.Again.{are_bytes}
 use Rattle.phrases.proofs.Classes.{and_left, and_right}
-use Rattle.printed_again.proofs.Bytes.{all_below, both, and_false, below, byte_below, apart_bytes, within_bytes, all_pass, runs_through, all_run, colon_stops, colon_closes}
+use Rattle.printed_again.proofs.Bytes.{both, and_false, below, apart_bytes, within_bytes, all_pass, runs_through, colon_stops, colon_closes}
 
 -- ---- escapes are undone
 

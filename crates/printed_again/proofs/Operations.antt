@@ -1,14 +1,12 @@
 -- Operations are read again.
-use Rattle.std.proofs.Common.{◌≡◌, ℕ, Bool, true, false, List, [], ◌∷◌, ◌++◌, ◌⊎◌, Option, Some, None, refl, sym, ap, subst, ◌∙◌, cond}
+use Rattle.std.proofs.Common.{◌≡◌, ℕ, Bool, true, false, List, [], ◌∷◌, Option, Some, None, refl, sym, ap, subst, ◌∙◌}
 use Rattle.std.specs.Prelude.{codes, map}
 use Rattle.std.specs.List.{AllByRecursion}
 use Rattle.ir_lexer.specs.declared.token.TokenKind.TheVariants as kinds
-use Rattle.ir_lexer.specs.Forms.{kind_of}
 use Rattle.bitnum.specs.declared.BinOp.{BinOp}
 use Rattle.bitnum.specs.declared.BinOp.TheVariants as ops
 use Rattle.bitnum.specs.declared.Pred.{Pred}
 use Rattle.bitnum.specs.declared.Pred.TheVariants as preds
-use Rattle.ir_tree.specs.declared.types.Name.{Name}
 use Rattle.ir_tree.specs.declared.types.IrType.{IrType}
 use Rattle.ir_tree.specs.declared.constants.Value.{Value}
 use Rattle.ir_tree.specs.declared.instructions.CastOp.{CastOp}
@@ -17,21 +15,21 @@ use Rattle.ir_tree.specs.declared.instructions.Typed.{Typed}
 use Rattle.ir_tree.specs.declared.instructions.Index.{Index}
 use Rattle.ir_tree.specs.declared.instructions.Operation.{Operation}
 use Rattle.ir_tree.specs.declared.instructions.Operation.TheVariants as operations
-use Rattle.ir_tree.specs.Spelling.{others, type_tokens, result_tokens, value_tokens, typed_tokens, pointer_tokens, binary_text, pred_text, cast_text, index_tokens, operation_tokens}
-use Rattle.ir_tree.specs.Places.{bare_name, bare_type, bare_value, bare_typed, bare_index, bare_operation, on_some}
-use Rattle.phrases.specs.Piece.{Piece, Class}
+use Rattle.ir_tree.specs.Spelling.{others, result_tokens, typed_tokens, binary_text, pred_text, cast_text, index_tokens, operation_tokens}
+use Rattle.ir_tree.specs.Places.{bare_type, bare_value, bare_typed, bare_index, bare_operation}
+use Rattle.phrases.specs.Piece.{Class}
 use Rattle.phrases.specs.Phrase.{Phrase, one, done, from_derive, ◌>>=◌, ◌>>◌, but}
-use Rattle.ir_grammar.specs.Tokens.{meaning, comma, integer_type}
-use Rattle.ir_grammar.specs.Numbers.{fits_width, fits_any, fits_index}
-use Rattle.ir_grammar.specs.Types.{skip_mark, attribute_or, attributes, value_type, scalar_type, mem_type, nesting, width_in}
-use Rattle.ir_grammar.specs.Constants.{operand_where, operand, operand_in, pointer}
-use Rattle.ir_grammar.specs.Instructions.{attached, after, after_alloca, tail_item, tail, item_or_attached, attachments_begun, present, items_and_after, binary_rows, pred_rows, cast_rows, binary, compare, cast, typed, select, alloca, volatile, load, index, element_pointer, result_type, callee, argument, tail_mark, call_at, call, operation}
+use Rattle.ir_grammar.specs.Tokens.{meaning, integer_type}
+use Rattle.ir_grammar.specs.Numbers.{fits_width, fits_index}
+use Rattle.ir_grammar.specs.Types.{skip_mark, attribute_or, attributes, nesting, width_in}
+use Rattle.ir_grammar.specs.Constants.{operand, operand_in}
+use Rattle.ir_grammar.specs.Instructions.{attached, after, after_alloca, tail_item, tail, item_or_attached, attachments_begun, present, items_and_after, binary_rows, pred_rows, cast_rows, binary, compare, cast, typed, select, alloca, volatile, load, index, element_pointer, result_type, argument, tail_mark, call_at, call, operation}
 use Rattle.printed_again.proofs.Numbers.{IsWidth, width_bounded, index_bounded, width_tells, width_back}
-use Rattle.printed_again.proofs.Backs.{Back, bind, ends, gives, alike, left, right, token, single, Any, the_word, the_mark, the_place, none_from, more_from, nothing}
+use Rattle.printed_again.proofs.Backs.{Back, bind, ends, gives, alike, left, right, single, Any, the_word, the_mark, the_place, none_from, more_from, nothing}
 use Rattle.printed_again.proofs.Tells.{Tells, step, over, made, or, told_as, each_from}
-use Rattle.printed_again.proofs.Lists.{moved, cons_like, listed_back, listed_tell}
-use Rattle.printed_again.proofs.Types.{IsName, SameName, global_back, global_tells, SameType, IsValueType, value_type_tells, IsScalar, scalar_tells, scalar_back, TypeBack, mem_tells}
-use Rattle.printed_again.proofs.Values.{flags_back, SameValue, OperandBack, operand_tells, PointerBack, pointer_tells}
+use Rattle.printed_again.proofs.Lists.{cons_like, listed_back, listed_tell}
+use Rattle.printed_again.proofs.Types.{global_back, global_tells, IsValueType, value_type_tells, IsScalar, scalar_tells, scalar_back, mem_tells}
+use Rattle.printed_again.proofs.Values.{flags_back, SameValue, OperandBack, operand_tells, pointer_tells}
 
 -- ---- what is ignored
 

@@ -1,7 +1,7 @@
 -- A tree in which all that can have a number has a name is left as it is by numbering, without regard to places.
-use Rattle.std.proofs.Common.{◌≡◌, ℕ, suc, ◌+◌, ◌<◌, Bool, true, false, cond, ◌&&◌, List, [], ◌∷◌, Option, Some, None, length, refl, sym, ap, subst, ◌∙◌, arith}
+use Rattle.std.proofs.Common.{◌≡◌, ℕ, ◌+◌, Bool, true, false, cond, List, [], ◌∷◌, Option, Some, None, refl, sym, ap, subst, ◌∙◌}
 use Rattle.std.specs.Prelude.{map}
-use Rattle.std.specs.Fmt.{decimal, digits, digits_onto, digit_glyph}
+use Rattle.std.specs.Fmt.{decimal}
 use Rattle.ir_tree.specs.declared.types.Name.{Name}
 use Rattle.ir_tree.specs.declared.instructions.Operation.{Operation}
 use Rattle.ir_tree.specs.declared.instructions.Operation.TheVariants as operations
@@ -77,11 +77,10 @@ parameters_again at from n (p ∷ ps) (q ∷ qs) e =
     let head = cons_head (bare_parameter p) (bare_parameter (numbered_parameter q name.0)) (map bare_parameter ps) (map bare_parameter (numbered_parameters at name.1 qs).0) e in
     let tail = cons_tail (bare_parameter p) (bare_parameter (numbered_parameter q name.0)) (map bare_parameter ps) (map bare_parameter (numbered_parameters at name.1 qs).0) e in
     let r = named_again at from n p.name q.name (ap (λ x. x.name) head) in
-    let rest = subst (λ k. SameParameters (numbered_parameters from k ps) (numbered_parameters at name.1 qs)) (sym r.1) (parameters_again at from name.1 ps qs tail) in
-    (
+    let rest = subst (λ k. SameParameters (numbered_parameters from k ps) (numbered_parameters at name.1 qs)) (sym r.1) (parameters_again at from name.1 ps qs tail) in (
       cons_like bare_parameter (numbered_parameter q name.0) (numbered_parameter p (numbered_name from n p.name).0) (numbered_parameters at name.1 qs).0 (numbered_parameters from (numbered_name from n p.name).1 ps).0
-      (ap (λ k. record { kind = k; name = Some (bare_name (numbered_name from n p.name).0) }) (ap (λ x. x.kind) head) ∙ ap (λ o. record { kind = bare_type q.kind; name = o }) r.0)
-      rest.0,
+          (ap (λ k. record { kind = k; name = Some (bare_name (numbered_name from n p.name).0) }) (ap (λ x. x.kind) head) ∙ ap (λ o. record { kind = bare_type q.kind; name = o }) r.0)
+          rest.0,
       rest.1,
     )
 
@@ -125,11 +124,10 @@ instructions_again at from n (i ∷ is) (j ∷ js) e =
     let same : bare_operation i.operation ≡ bare_operation j.operation = ap (λ x. x.operation) head in
     let has : has_result i.operation ≡ has_result j.operation = sym (has_result_bare i.operation) ∙ ap has_result same ∙ has_result_bare j.operation in
     let r : SameResult here there = subst (λ b. SameResult (numbered_result from n i.result b) there) (sym has) (result_again at from n i.result j.result (has_result j.operation) (ap (λ x. x.result) head)) in
-    let rest = subst (λ k. SameInstructions (numbered_instructions from k is) (numbered_instructions at there.1 js)) (sym r.1) (instructions_again at from there.1 is js tail) in
-    (
+    let rest = subst (λ k. SameInstructions (numbered_instructions from k is) (numbered_instructions at there.1 js)) (sym r.1) (instructions_again at from there.1 is js tail) in (
       cons_like bare_instruction (with_result j there.0) (with_result i here.0) (numbered_instructions at there.1 js).0 (numbered_instructions from here.1 is).0
-      (ap (λ o. record { at = 0; result = o; operation = bare_operation i.operation }) r.0 ∙ ap (λ o. record { at = 0; result = on_some bare_name there.0; operation = o }) same)
-      rest.0,
+          (ap (λ o. record { at = 0; result = o; operation = bare_operation i.operation }) r.0 ∙ ap (λ o. record { at = 0; result = on_some bare_name there.0; operation = o }) same)
+          rest.0,
       rest.1,
     )
 
@@ -183,7 +181,7 @@ function_again f g e =
     let ps = numbered_parameters f.header.name.at 0 f.header.parameters in
     let same = parameters_again g.header.name.at f.header.name.at 0 f.header.parameters g.header.parameters (ap (λ x. x.parameters) head) in
     let blocks : map bare_block (numbered_blocks f.header.name.at ps.1 f.blocks) ≡ map bare_block (numbered_blocks g.header.name.at qs.1 g.blocks) =
-      subst (λ k. map bare_block (numbered_blocks f.header.name.at k f.blocks) ≡ map bare_block (numbered_blocks g.header.name.at qs.1 g.blocks)) (sym same.1) (blocks_again g.header.name.at f.header.name.at qs.1 f.blocks g.blocks (ap (λ x. x.blocks) e))
+    subst (λ k. map bare_block (numbered_blocks f.header.name.at k f.blocks) ≡ map bare_block (numbered_blocks g.header.name.at qs.1 g.blocks)) (sym same.1) (blocks_again g.header.name.at f.header.name.at qs.1 f.blocks g.blocks (ap (λ x. x.blocks) e))
     in
     ap (λ h. record { header = h; blocks = map bare_block (numbered_blocks f.header.name.at ps.1 f.blocks) }) (header_like f.header g.header ps.0 qs.0 (ap (λ x. x.result) head) (ap (λ x. x.name) head) same.0)
     ∙ ap (λ bs. record { header = bare_header (with_parameters g.header qs.0); blocks = bs }) blocks

@@ -1,8 +1,8 @@
 -- The tokens of a text of bytes have bytes.
-use Rattle.std.proofs.Common.{◌≡◌, ℕ, zero, suc, ◌-◌, ◌<◌, ◌^◌, Bool, true, false, cond, ◌&&◌, nat_le, nat_lt, List, [], ◌∷◌, ◌++◌, length, get_or, take, drop, refl, arith, lt-ltb}
+use Rattle.std.proofs.Common.{◌≡◌, ℕ, zero, suc, ◌-◌, ◌<◌, ◌^◌, Bool, true, false, cond, ◌&&◌, nat_le, nat_lt, List, [], ◌∷◌, length, get_or, take, drop, refl, arith, lt-ltb}
 use Rattle.ir_lexer.specs.declared.token.Token.{Token}
 use Rattle.phrases.proofs.Classes.{and_left, and_right}
-use Rattle.ir_grammar.specs.Tokens.{bytes_of, piece, seen}
+use Rattle.ir_grammar.specs.Tokens.{bytes_of, seen}
 use Rattle.printed_again.specs.Again.{are_bytes, HaveBytes}
 use Rattle.printed_again.proofs.Bytes.{both}
 

@@ -1,7 +1,7 @@
 -- What a derivation tells of its value: one lemma a combinator.
-use Rattle.std.proofs.Common.{◌≡◌, Bool, true, false, ◌&&◌, List, [], ◌∷◌, ◌++◌, ◌⊎◌, Option, Some, inl, inr, refl, subst, sym, ap}
+use Rattle.std.proofs.Common.{◌≡◌, true, List, [], ◌∷◌, ◌++◌, ◌⊎◌, Option, Some, inl, inr, subst}
 use Rattle.std.specs.List.{AllByRecursion}
-use Rattle.phrases.specs.Piece.{Piece, Class}
+use Rattle.phrases.specs.Piece.{Piece}
 use Rattle.phrases.specs.Phrase.{Phrase, one, chain, from_derive, many}
 use Rattle.printed_again.specs.Again.{are_bytes, HaveBytes}
 

@@ -1,30 +1,27 @@
 -- Terminators are read again.
-use Rattle.std.proofs.Common.{◌≡◌, ℕ, List, [], ◌∷◌, ◌++◌, ◌⊎◌, Option, Some, None, refl, sym, ap, subst, ◌∙◌, append_assoc}
+use Rattle.std.proofs.Common.{◌≡◌, ℕ, List, [], ◌∷◌, Option, Some, None, refl, sym, ap, subst, ◌∙◌}
 use Rattle.std.specs.Prelude.{codes, map}
 use Rattle.std.specs.List.{AllByRecursion}
 use Rattle.ir_tree.specs.declared.types.Name.{Name}
 use Rattle.ir_tree.specs.declared.constants.Integer.{Integer}
-use Rattle.ir_tree.specs.declared.constants.Value.{Value}
 use Rattle.ir_tree.specs.declared.instructions.Typed.{Typed}
 use Rattle.ir_tree.specs.declared.instructions.Case.{Case}
 use Rattle.ir_tree.specs.declared.instructions.TerminatorForm.{TerminatorForm}
 use Rattle.ir_tree.specs.declared.instructions.TerminatorForm.TheVariants as terminators
 use Rattle.ir_tree.specs.declared.instructions.Terminator.{Terminator}
-use Rattle.ir_tree.specs.Spelling.{value_tokens, typed_tokens, target_tokens, case_tokens, joined, terminator_tokens}
-use Rattle.ir_tree.specs.Places.{bare_name, bare_value, bare_typed, bare_case, bare_end, bare_terminator, on_some}
-use Rattle.phrases.specs.Piece.{Piece}
+use Rattle.ir_tree.specs.Spelling.{typed_tokens, target_tokens, case_tokens, joined, terminator_tokens}
+use Rattle.ir_tree.specs.Places.{bare_name, bare_typed, bare_case, bare_terminator, on_some}
 use Rattle.phrases.specs.Phrase.{Phrase, either, done, ◌>>=◌, ◌>>◌}
 use Rattle.ir_grammar.specs.Tokens.{word}
 use Rattle.ir_grammar.specs.Numbers.{fits_width}
 use Rattle.ir_grammar.specs.Types.{skip_word}
-use Rattle.ir_grammar.specs.Instructions.{typed, return_term, target, jump, branch, branch_term, placed_int, case, switch_term, unreachable_term, terminator}
+use Rattle.ir_grammar.specs.Instructions.{typed, return_term, target, branch_term, case, switch_term, unreachable_term, terminator}
 use Rattle.printed_again.proofs.Numbers.{Fits, IsWidth, width_bounded, placed_tells, placed_back, width_tells, width_back}
-use Rattle.printed_again.proofs.Backs.{Back, bind, ends, gives, alike, left, right, Any, the_word, the_mark, the_place, all_of, none, more}
+use Rattle.printed_again.proofs.Backs.{Back, bind, ends, gives, alike, left, right, the_word, the_mark, the_place, all_of, none, more}
 use Rattle.printed_again.proofs.Tells.{Tells, step, over, made, or, told_as, each}
 use Rattle.printed_again.proofs.Lists.{moved, cons_like}
-use Rattle.printed_again.proofs.Types.{IsName, SameName, local_back, local_tells}
-use Rattle.printed_again.proofs.Values.{SameValue}
-use Rattle.printed_again.proofs.Operations.{closes, OperandOf, of_width_tells, of_width, bit, TypedBack, typed_tells}
+use Rattle.printed_again.proofs.Types.{SameName, local_back, local_tells}
+use Rattle.printed_again.proofs.Operations.{closes, of_width_tells, of_width, bit, typed_tells}
 
 abbrev pub SameTerminator : Terminator → Terminator → Type 0
 SameTerminator t u = bare_terminator u ≡ bare_terminator t

@@ -1,31 +1,31 @@
 -- Names and types are read again.
-use Rattle.std.proofs.Common.{◌≡◌, ℕ, zero, suc, Bool, true, false, cond, not, ◌||◌, ◌&&◌, ◌==◌, nat_le, List, [], ◌∷◌, ◌++◌, Option, Some, None, refl, sym, ap, subst, ◌∙◌, eqb-true}
+use Rattle.std.proofs.Common.{◌≡◌, ℕ, zero, suc, Bool, true, false, cond, not, ◌||◌, ◌==◌, nat_le, List, [], ◌∷◌, ◌++◌, Option, Some, None, refl, sym, ap, subst, ◌∙◌, eqb-true}
 use Rattle.std.specs.Prelude.{codes, map}
 use Rattle.std.specs.Fmt.{digits}
 use Rattle.std.specs.List.{AllByRecursion}
 use Rattle.ir_lexer.specs.declared.token.TokenKind.TheVariants as kinds
 use Rattle.ir_lexer.specs.Forms.{kind_of}
 use Rattle.ir_tree.specs.declared.types.Name.{Name}
-use Rattle.ir_tree.specs.declared.types.IrType.{IrType, fold-IrType, fold-roll-IrType, out-IrType}
+use Rattle.ir_tree.specs.declared.types.IrType.{IrType, fold-IrType, fold-roll-IrType}
 use Rattle.ir_tree.specs.declared.types.IrType.TheOpen.{IrType-F}
 use Rattle.ir_tree.specs.declared.types.IrType.TheViews.{rolls-Array, rolls-Struct, rolls-Named, rolls-Int, rolls-Ptr, outs-Int, outs-Ptr}
 use Rattle.ir_tree.specs.declared.types.IrType.TheVariants as types
 use Rattle.ir_tree.specs.declared.constants.Integer.{Integer}
-use Rattle.ir_tree.specs.Texts.{global_text, local_text, label_text, integer_text, width_text}
+use Rattle.ir_tree.specs.Texts.{global_text, local_text, label_text, width_text}
 use Rattle.ir_tree.specs.Spelling.{separated, opening, closing, type_level, type_tokens}
 use Rattle.ir_tree.specs.Places.{bare_name, bare_level, bare_type}
-use Rattle.phrases.specs.Piece.{Piece, Class, matches, among, same_text}
-use Rattle.phrases.specs.Phrase.{Phrase, one}
+use Rattle.phrases.specs.Piece.{Piece, Class, matches, same_text}
+use Rattle.phrases.specs.Phrase.{one}
 use Rattle.phrases.proofs.Classes.{and_left, and_right, same_text-is}
 use Rattle.phrases.proofs.Combinators.{self}
-use Rattle.ir_grammar.specs.Tokens.{number_of, a_local, a_global, a_label, word, mark}
+use Rattle.ir_grammar.specs.Tokens.{a_local, a_global, a_label, word, mark}
 use Rattle.ir_grammar.specs.Numbers.{fits_length, width_of}
 use Rattle.ir_grammar.specs.Names.{name_in, after_sigil, before_colon}
-use Rattle.ir_grammar.specs.Types.{global_name, local_name, label_name, int, integer_or, type_of, value_type, scalar_words, scalar_of, scalar_type, plain_of, array_type, struct_type, mem_type, width_in, width_at}
+use Rattle.ir_grammar.specs.Types.{global_name, local_name, label_name, integer_or, type_of, value_type, scalar_of, scalar_type, plain_of, array_type, struct_type, mem_type, width_in, width_at}
 use Rattle.printed_again.specs.Again.{are_bytes}
 use Rattle.printed_again.proofs.Names.{name_again, global_is, local_is, label_is, label_again, sigil_bytes, colon_bytes}
 use Rattle.printed_again.proofs.Numbers.{Fits, IsWidth, when_some, length_bounded, int_tells, int_back, width_of_tells, width_kind, width_again}
-use Rattle.printed_again.proofs.Backs.{Back, bind, ends, gives, alike, left, right, token, single, Any, the_word, the_mark, places}
+use Rattle.printed_again.proofs.Backs.{Back, bind, ends, gives, left, right, token, single, the_word, the_mark, places}
 use Rattle.printed_again.proofs.Tells.{Tells, step, over, made, or, token_tells}
 use Rattle.printed_again.proofs.Lists.{moved, listed_back, listed_tell}
 
@@ -154,6 +154,7 @@ word_type : (s : List ℕ) (p : Piece) → matches (word s) p ≡ true → type_
 word_type s p m =
     ap (λ k. type_of (record { kind = k; text = p.text; at = p.at })) (eqb-true p.kind 0 (and_left (p.kind == 0) (same_text p.text s) m))
     ∙ ap (λ x. type_of (record { kind = 0; text = x; at = p.at })) (same_text-is p.text s (and_right (p.kind == 0) (same_text p.text s) m))
+
 scalar_is : (p : Piece) (t : IrType) → scalar_of p ≡ Some t → IsScalar t
 unfolding digits
 scalar_is p t e = words (matches (word (codes "i8")) p) (matches (word (codes "i16")) p) (matches (word (codes "i32")) p) (matches (word (codes "i64")) p) (matches (word (codes "ptr")) p) refl refl refl refl refl e

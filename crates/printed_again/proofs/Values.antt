@@ -1,37 +1,35 @@
 -- Constant expressions and operands are read again.
-use Rattle.std.proofs.Common.{◌≡◌, ℕ, zero, suc, Bool, true, false, cond, ◌||◌, ◌&&◌, ◌==◌, List, [], ◌∷◌, ◌++◌, Option, Some, None, refl, sym, ap, subst, ◌∙◌}
+use Rattle.std.proofs.Common.{◌≡◌, ℕ, zero, suc, Bool, true, false, cond, List, [], ◌∷◌, Option, Some, None, refl, sym, ap, subst, ◌∙◌}
 use Rattle.std.specs.Prelude.{codes, map}
 use Rattle.std.specs.List.{AllByRecursion}
 use Rattle.ir_lexer.specs.declared.token.TokenKind.{TokenKind}
 use Rattle.ir_lexer.specs.declared.token.TokenKind.TheVariants as kinds
 use Rattle.ir_lexer.specs.Forms.{kind_of}
-use Rattle.ir_tree.specs.declared.types.Name.{Name}
 use Rattle.ir_tree.specs.declared.types.IrType.{IrType}
 use Rattle.ir_tree.specs.declared.constants.Integer.{Integer}
 use Rattle.ir_tree.specs.declared.constants.Value.{Value}
 use Rattle.ir_tree.specs.declared.constants.ValueForm.{ValueForm}
 use Rattle.ir_tree.specs.declared.constants.ValueForm.TheVariants as forms
 use Rattle.ir_tree.specs.declared.constants.ConstGep.{ConstGep}
-use Rattle.ir_tree.specs.declared.constants.GepLevel.{GepLevel}
 use Rattle.ir_tree.specs.declared.constants.ConstIndex.{ConstIndex}
-use Rattle.ir_tree.specs.Texts.{global_text, local_text, integer_text, width_text}
-use Rattle.ir_tree.specs.Spelling.{type_tokens, const_index_tokens, gep_tokens, form_tokens, value_tokens, pointer_tokens}
-use Rattle.ir_tree.specs.Places.{bare_name, bare_type, bare_const_index, bare_gep_level, bare_gep, bare_form, bare_value}
+use Rattle.ir_tree.specs.Texts.{global_text, local_text, integer_text}
+use Rattle.ir_tree.specs.Spelling.{const_index_tokens, gep_tokens, form_tokens, value_tokens, pointer_tokens}
+use Rattle.ir_tree.specs.Places.{bare_type, bare_const_index, bare_gep, bare_form, bare_value}
 use Rattle.phrases.specs.Piece.{Piece, matches}
-use Rattle.phrases.specs.Phrase.{Phrase, one, skip}
+use Rattle.phrases.specs.Phrase.{one, skip}
 use Rattle.ir_grammar.specs.Tokens.{a_global, a_local, word, words, meaning}
 use Rattle.ir_grammar.specs.Words.{flag_words}
-use Rattle.ir_grammar.specs.Numbers.{fits_width, fits_any, fits_offset, int_in}
+use Rattle.ir_grammar.specs.Numbers.{fits_any, fits_offset, int_in}
 use Rattle.ir_grammar.specs.Names.{after_sigil}
-use Rattle.ir_grammar.specs.Types.{flags, mem_type, nesting, width_in}
-use Rattle.ir_grammar.specs.Constants.{const_index, gep_level, gep_global, gep_base, constant_rows, form_or_int, simple_form, value_here, simple_of, operand_of, gep_value, gep_operand, operand_where, operand, operand_in, pointer}
+use Rattle.ir_grammar.specs.Types.{flags, nesting}
+use Rattle.ir_grammar.specs.Constants.{const_index, gep_level, gep_global, gep_base, constant_rows, form_or_int, simple_form, value_here, simple_of, operand_of, gep_value, gep_operand, operand_where, pointer}
 use Rattle.printed_again.specs.Again.{are_bytes}
 use Rattle.printed_again.proofs.Names.{name_again, global_is, local_is, sigil_bytes}
-use Rattle.printed_again.proofs.Numbers.{Fits, IsWidth, IsPlaced, IsBounded, offset_bounded, any_bounded, int_fits, int_reads, placed_tells, placed_back, width_tells, width_back}
+use Rattle.printed_again.proofs.Numbers.{Fits, IsWidth, IsBounded, offset_bounded, any_bounded, int_fits, int_reads, placed_tells, placed_back, width_tells, width_back}
 use Rattle.printed_again.proofs.Backs.{Back, bind, ends, gives, alike, left, right, token, single, Any, the_word, the_mark, the_place, nothing}
 use Rattle.printed_again.proofs.Tells.{Tells, step, over, made, or, told_as, token_tells}
 use Rattle.printed_again.proofs.Lists.{moved, commas_back, commas_tell}
-use Rattle.printed_again.proofs.Types.{IsName, global_back, global_tells, TypeBack, SameType, mem_tells}
+use Rattle.printed_again.proofs.Types.{global_back, global_tells, TypeBack, mem_tells}
 
 pub flags_back : Back flags.derives [] Any
 flags_back = nothing (skip (words flag_words))
