@@ -15,7 +15,8 @@ abbrev pub are_bytes : List ℕ → Bool
 are_bytes [] = true
 are_bytes (b ∷ bs) = nat_lt b 256 && are_bytes bs
 
--- the texts of the tokens are made of bytes
+-- The texts of the tokens are made of bytes, as those of a source are. An escape in a name writes one byte (Language Reference,
+-- "Identifiers"), so a number above 255 in a name couldn't be printed.
 abbrev pub HaveBytes : List Piece → Type 0
 HaveBytes [] = Unit {0}
 HaveBytes (p ∷ ps) = (are_bytes p.text ≡ true) × HaveBytes ps
