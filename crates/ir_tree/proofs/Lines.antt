@@ -9,11 +9,11 @@ use Rattle.ir_tree.specs.Printing.{Line, indent, line_text, text_of, block_lines
 use Rattle.ir_tree.specs.Pages.{Written, begun, gap_before, with_token, after}
 
 -- the tokens behind a token, or behind a place where none stands at once
-abbrev behind : Bool → List (List ℕ) → List ℕ
+abbrev pub behind : Bool → List (List ℕ) → List ℕ
 behind glued [] = []
 behind glued (t ∷ ts) = gap_before glued t ++ (t ++ behind (no_space_behind t) ts)
 
-spaced_is : (t : List ℕ) (ts : List (List ℕ)) → spaced (t ∷ ts) ≡ t ++ behind (no_space_behind t) ts
+pub spaced_is : (t : List ℕ) (ts : List (List ℕ)) → spaced (t ∷ ts) ≡ t ++ behind (no_space_behind t) ts
 spaced_is t [] = sym (append-nil t)
 spaced_is t (u ∷ us) = ap (λ r. t ++ (gap t u ++ r)) (spaced_is u us)
 
