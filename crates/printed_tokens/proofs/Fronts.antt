@@ -1,5 +1,5 @@
 -- The tokens that a tree is printed with stay the longest in front of whatever is printed behind them.
-use Rattle.std.proofs.Common.{◌≡◌, ℕ, zero, suc, ◌+◌, ◌*◌, ◌/◌, ◌%◌, ◌≤◌, ◌<◌, Bool, true, false, cond, ◌&&◌, ◌||◌, ◌⊎◌, inl, inr, List, [], ◌∷◌, ◌++◌, length, take, drop, Option, Some, None, eqb, leb, ltb, refl, sym, ap, subst, ◌∙◌, arith, append_assoc, length-append}
+use Rattle.std.proofs.Common.{◌≡◌, ℕ, zero, suc, ◌+◌, ◌/◌, ◌%◌, ◌<◌, Bool, true, false, cond, ◌&&◌, ◌||◌, ◌⊎◌, inl, inr, List, [], ◌∷◌, ◌++◌, length, take, drop, Option, Some, None, eqb, ltb, refl, sym, ap, subst, ◌∙◌, arith, append_assoc, length-append}
 use Rattle.std.specs.Prelude.{◌==◌, codes, not}
 use Rattle.std.specs.Fmt.{digit_glyph, digits_onto, digits, decimal}
 use Rattle.std.proofs.lemmas.Bool.{eqb-true, and_parts}
@@ -7,7 +7,7 @@ use Rattle.ir_lexer.specs.declared.token.TokenKind.{TokenKind}
 use Rattle.ir_lexer.specs.declared.token.TokenKind.TheVariants as kinds
 use Rattle.ir_lexer.specs.Forms.{is_digit, is_word_start, is_word_byte, is_name_start, is_name_byte, is_unquoted, same, runs_to, is_plain_name, is_number}
 use Rattle.ir_lexer.specs.Lexing.{is_blank}
-use Rattle.ir_lexer.specs.Scanning.{run, begins, run_to, one_more, plain_behind, number_behind, number, quoted_behind, quoted, name_behind, name, label_behind, of_kind, or_else, after_hash, after_bang, word_or_string, dots, marks, found_behind, found_whole, with_first, found}
+use Rattle.ir_lexer.specs.Scanning.{run, begins, run_to, one_more, plain_behind, number, quoted, name, label_behind, of_kind, or_else, after_hash, after_bang, word_or_string, dots, marks, found_behind, with_first, found}
 use Rattle.ir_lexer.proofs.Found.{label_of_name, label_of_digit, digit_no_start, word_is_name, word_byte_is_name, digit_is_name, word_no_digit}
 use Rattle.ir_tree.specs.declared.constants.Integer.{Integer}
 use Rattle.ir_tree.specs.Texts as texts
@@ -221,7 +221,7 @@ word_front : (b : ℕ) (bs next : List ℕ) → is_word_start b ≡ true → run
 word_front b bs next h all s =
     let x = bs ++ next in
     let label : label_behind b x ≡ None =
-        label_of_name b x (apart is_word_start b 34 h refl) (word_no_digit b h) (word_is_name b h) ∙ run_to_none is_name_byte (codes ":") bs next (runs_wider is_word_byte is_name_byte word_byte_is_name bs all) s.name s.colon in
+    label_of_name b x (apart is_word_start b 34 h refl) (word_no_digit b h) (word_is_name b h) ∙ run_to_none is_name_byte (codes ":") bs next (runs_wider is_word_byte is_name_byte word_byte_is_name bs all) s.name s.colon in
     let string : word_or_string b x ≡ Some (kinds.Word, run is_word_byte x) = no_c (eqb b 99) x (no_string bs next all s.string) in
     ap with_first (ap (λ o. or_else (of_kind kinds.Label o) (found_behind b x)) label ∙ word_behind b x h ∙ string) ∙ ap (λ n. Some (kinds.Word, n)) (omega (arith, run_over is_word_byte bs next all s.word))
   where
@@ -398,32 +398,29 @@ local_stays s = stays (local_text s) kinds.Local (record { blank = refl; comment
 
 -- a label, whatever follows it
 label_front : (s t next : List ℕ) → Printed s t → (found ((t ++ 58 ∷ []) ++ next) ≡ Some (kinds.Label, length (t ++ 58 ∷ []))) × StartsText (t ++ 58 ∷ []) × (no_space_behind (t ++ 58 ∷ []) ≡ false)
-label_front s t next (in_quotes) =
-    (
-      ap (λ x. with_first (or_else (of_kind kinds.Label (run_to is_unquoted (codes "\":") x)) (found_behind 34 x))) (append_assoc (escaped s ++ 34 ∷ []) (58 ∷ []) next ∙ append_assoc (escaped s) (34 ∷ []) (58 ∷ next))
+label_front s t next (in_quotes) = (
+  ap (λ x. with_first (or_else (of_kind kinds.Label (run_to is_unquoted (codes "\":") x)) (found_behind 34 x))) (append_assoc (escaped s ++ 34 ∷ []) (58 ∷ []) next ∙ append_assoc (escaped s) (34 ∷ []) (58 ∷ next))
       ∙ ap (λ o. with_first (or_else (of_kind kinds.Label o) (found_behind 34 (escaped s ++ 34 ∷ 58 ∷ next)))) (run_to_some is_unquoted (codes "\":") (escaped s) next (quoted_bytes s) refl)
       ∙ ap (λ n. Some (kinds.Label, n)) (omega (arith, length-append (texts.quoted s) (58 ∷ []), quoted_length s)),
-      record { blank = refl; comment = refl; bang = refl },
-      refl,
-    )
+  record { blank = refl; comment = refl; bang = refl },
+  refl,
+)
 label_front [] t next (plain h) = absurd cc
 label_front (b ∷ bs) t next (plain h) =
-    let p = and_parts (is_name_start b) (runs_to is_name_byte [] bs) h in
-    (
+    let p = and_parts (is_name_start b) (runs_to is_name_byte [] bs) h in (
       ap (λ x. with_first (or_else (of_kind kinds.Label (label_behind b x)) (found_behind b x))) (append_assoc bs (58 ∷ []) next)
-      ∙ ap (λ o. with_first (or_else (of_kind kinds.Label o) (found_behind b (bs ++ 58 ∷ next))))
-        (label_of_name b (bs ++ 58 ∷ next) (apart is_name_start b 34 p.0 refl) (name_no_digit b p.0) p.0 ∙ run_to_some is_name_byte (codes ":") bs next p.1 refl)
-      ∙ ap (λ n. Some (kinds.Label, n)) (omega (arith, length-append bs (58 ∷ []))),
+          ∙ ap (λ o. with_first (or_else (of_kind kinds.Label o) (found_behind b (bs ++ 58 ∷ next))))
+          (label_of_name b (bs ++ 58 ∷ next) (apart is_name_start b 34 p.0 refl) (name_no_digit b p.0) p.0 ∙ run_to_some is_name_byte (codes ":") bs next p.1 refl)
+          ∙ ap (λ n. Some (kinds.Label, n)) (omega (arith, length-append bs (58 ∷ []))),
       starts_of is_name_start refl refl refl refl refl refl b p.0,
       no_mark b (bs ++ 58 ∷ []) (apart is_name_start b 40 p.0 refl) (apart is_name_start b 91 p.0 refl),
     )
 label_front [] t next (numbered h) = absurd cc
 label_front (b ∷ bs) t next (numbered h) =
-    let p = and_parts (is_digit b) (runs_to is_digit [] bs) h in
-    (
+    let p = and_parts (is_digit b) (runs_to is_digit [] bs) h in (
       ap (λ x. with_first (or_else (of_kind kinds.Label (label_behind b x)) (found_behind b x))) (append_assoc bs (58 ∷ []) next)
-      ∙ ap (λ o. with_first (or_else (of_kind kinds.Label o) (found_behind b (bs ++ 58 ∷ next)))) (label_of_digit b (bs ++ 58 ∷ next) (apart is_digit b 34 p.0 refl) p.0 ∙ run_to_some is_digit (codes ":") bs next p.1 refl)
-      ∙ ap (λ n. Some (kinds.Label, n)) (omega (arith, length-append bs (58 ∷ []))),
+          ∙ ap (λ o. with_first (or_else (of_kind kinds.Label o) (found_behind b (bs ++ 58 ∷ next)))) (label_of_digit b (bs ++ 58 ∷ next) (apart is_digit b 34 p.0 refl) p.0 ∙ run_to_some is_digit (codes ":") bs next p.1 refl)
+          ∙ ap (λ n. Some (kinds.Label, n)) (omega (arith, length-append bs (58 ∷ []))),
       starts_of is_digit refl refl refl refl refl refl b p.0,
       no_mark b (bs ++ 58 ∷ []) (apart is_digit b 40 p.0 refl) (apart is_digit b 91 p.0 refl),
     )

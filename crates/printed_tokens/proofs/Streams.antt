@@ -1,22 +1,20 @@
 -- A text of lines parts into the tokens that the lines were printed with.
-use Rattle.std.proofs.Common.{◌≡◌, ℕ, zero, suc, ◌+◌, ◌-◌, ◌≤◌, ◌<◌, Bool, true, false, cond, ◌||◌, inl, List, [], ◌∷◌, ◌++◌, length, take, drop, map, Option, Some, None, eqb, leb, refl, sym, ap, subst, ◌∙◌, arith, append_assoc, length-append}
+use Rattle.std.proofs.Common.{◌≡◌, ℕ, ◌+◌, ◌-◌, Bool, true, false, cond, ◌||◌, inl, List, [], ◌∷◌, ◌++◌, length, take, drop, Some, eqb, leb, refl, sym, ap, subst, ◌∙◌, arith, append_assoc, length-append}
 use Rattle.std.specs.Prelude.{◌==◌, ◌&&◌, codes, slice_range, MatchOption}
-use Rattle.std.proofs.lemmas.List.{append-nil}
-use Rattle.std.proofs.lemmas.Bool.{le-leb, eqb-true}
+use Rattle.std.proofs.lemmas.Bool.{le-leb}
 use Rattle.ir_lexer.specs.declared.token.TokenKind.{TokenKind}
 use Rattle.ir_lexer.specs.declared.token.Token.{Token}
 use Rattle.ir_lexer.specs.Forms.{kind_of}
-use Rattle.ir_lexer.specs.Lexing.{is_blank, begins_comment, past, NoneFrom, IsTokenAt, token_at, PartsInto, AreTokens}
+use Rattle.ir_lexer.specs.Lexing.{begins_comment, past, NoneFrom, IsTokenAt, token_at, PartsInto, AreTokens}
 use Rattle.ir_lexer.specs.Scanning.{found}
 use Rattle.ir_lexer.proofs.Found.{found_is}
-use Rattle.phrases.specs.Piece.{Piece}
-use Rattle.ir_grammar.specs.Tokens.{number_of, bytes_of, piece, seen}
+use Rattle.ir_grammar.specs.Tokens.{bytes_of, seen}
 use Rattle.ir_tree.specs.Texts.{no_space_behind, no_space_before, same, spaced}
-use Rattle.ir_tree.specs.Printing.{Line, indent, line_text, text_of}
+use Rattle.ir_tree.specs.Printing.{Line, indent, text_of}
 use Rattle.ir_tree.specs.Pages.{gap_before}
 use Rattle.ir_tree.proofs.Lines.{behind, spaced_is}
-use Rattle.printed_tokens.specs.Lexed.{IsTokenOf, Spell, token_texts}
-use Rattle.printed_tokens.proofs.Fronts.{Starts, StartsText, Stays, is_end, is_ended}
+use Rattle.printed_tokens.specs.Lexed.{Spell, token_texts}
+use Rattle.printed_tokens.proofs.Fronts.{StartsText, Stays, is_ended}
 
 -- what is left of a text behind a front has tokens with these texts
 abbrev pub Lexes : List ℕ → List ℕ → List (List ℕ) → Type 0
@@ -62,8 +60,7 @@ step front t gap rest texts stays follows blanks more =
     let whole : (front ++ (t ++ gap)) ++ rest ≡ bytes = append_assoc front (t ++ gap) rest ∙ ap (λ r. front ++ r) (append_assoc t gap rest) in
     let token = token_at (length bytes) (t ++ (gap ++ rest)) stays.kind (length t) in
     let there = token_there t (gap ++ rest) stays.kind stays.starts (stays.front (gap ++ rest) follows) in
-    let left : past false false (drop (length t) (t ++ (gap ++ rest))) ≡ rest = ap (past false false) (drop_front t (gap ++ rest)) ∙ blanks in
-    (
+    let left : past false false (drop (length t) (t ++ (gap ++ rest))) ≡ rest = ap (past false false) (drop_front t (gap ++ rest)) ∙ blanks in (
       token ∷ more.0,
       inl (
         stays.kind,
@@ -187,7 +184,7 @@ lines_lexed (l ∷ ls) are front =
     let ts = are.0.1 in
     let tail = 10 ∷ (lead_of ls ++ body_of ls) in
     let flat : t ++ (behind (no_space_behind t) ts ++ tail) ≡ body_of (l ∷ ls) =
-        sym (append_assoc t (behind (no_space_behind t) ts) tail) ∙ ap (λ r. r ++ tail) (sym (spaced_is t ts)) ∙ ap (λ r. spaced r ++ tail) (sym are.0.2) ∙ ap (λ r. spaced l.tokens ++ 10 ∷ r) (sym (text_is ls)) in
+    sym (append_assoc t (behind (no_space_behind t) ts) tail) ∙ ap (λ r. r ++ tail) (sym (spaced_is t ts)) ∙ ap (λ r. spaced r ++ tail) (sym are.0.2) ∙ ap (λ r. spaced l.tokens ++ 10 ∷ r) (sym (text_is ls)) in
     subst (λ r. Lexes front r (token_texts (l ∷ ls))) flat
     (subst (λ r. Lexes front (t ++ (behind (no_space_behind t) ts ++ tail)) (r ++ token_texts ls)) (sym are.0.2)
     (tokens_lexed front t ts (lead_of ls) (body_of ls) (token_texts ls) are.0.3 (lead_past ls are.1) (lines_lexed ls are.1)))

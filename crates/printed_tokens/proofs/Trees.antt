@@ -1,20 +1,19 @@
 -- Each token that a tree is printed with stays, and no line is without one.
-use Rattle.std.proofs.Common.{◌≡◌, ℕ, Bool, true, false, cond, Option, Some, None, List, [], ◌∷◌, ◌++◌, map, refl, sym, ap, subst, ◌∙◌}
+use Rattle.std.proofs.Common.{◌≡◌, ℕ, Bool, true, false, Option, Some, None, List, [], ◌∷◌, ◌++◌, map, refl, sym, subst}
 use Rattle.std.specs.Prelude.{codes}
 use Rattle.bitnum.specs.declared.BinOp.{BinOp}
 use Rattle.bitnum.specs.declared.BinOp.TheVariants as ops
 use Rattle.bitnum.specs.declared.Pred.{Pred}
 use Rattle.bitnum.specs.declared.Pred.TheVariants as preds
 use Rattle.ir_tree.specs.declared.types.Name.{Name}
-use Rattle.ir_tree.specs.declared.types.IrType.{IrType, fold-IrType, fold-roll-IrType, ind-IrType, roll-IrType, map-IrType}
+use Rattle.ir_tree.specs.declared.types.IrType.{IrType, fold-roll-IrType, ind-IrType, roll-IrType, map-IrType}
 use Rattle.ir_tree.specs.declared.types.IrType.TheOpen.{IrType-F}
-use Rattle.ir_tree.specs.declared.constants.Integer.{Integer}
 use Rattle.ir_tree.specs.declared.constants.Value.{Value}
 use Rattle.ir_tree.specs.declared.constants.ValueForm.{ValueForm}
 use Rattle.ir_tree.specs.declared.constants.ValueForm.TheVariants as forms
 use Rattle.ir_tree.specs.declared.constants.GepLevel.{GepLevel}
 use Rattle.ir_tree.specs.declared.constants.ConstIndex.{ConstIndex}
-use Rattle.ir_tree.specs.declared.constants.Constant.{Constant, fold-Constant, fold-roll-Constant, ind-Constant, roll-Constant, map-Constant}
+use Rattle.ir_tree.specs.declared.constants.Constant.{Constant, fold-roll-Constant, ind-Constant, roll-Constant, map-Constant}
 use Rattle.ir_tree.specs.declared.constants.Constant.TheOpen.{Constant-F}
 use Rattle.ir_tree.specs.declared.instructions.CastOp.{CastOp}
 use Rattle.ir_tree.specs.declared.instructions.CastOp.TheVariants as casts
@@ -39,7 +38,7 @@ use Rattle.ir_tree.specs.declared.module.IrTree.{IrTree}
 use Rattle.ir_tree.specs.Texts.{label_text}
 use Rattle.ir_tree.specs.Spelling.{others, separated, joined, opening, closing, type_level, type_tokens, result_tokens, const_index_tokens, gep_tokens, form_tokens, value_tokens, constant_level, constant_tokens, typed_tokens, binary_text, pred_text, cast_text, pointer_tokens, index_tokens, operation_tokens, set_tokens, instruction_tokens, incoming_tokens, phi_tokens, target_tokens, case_tokens, terminator_tokens}
 use Rattle.ir_tree.specs.Printing.{Line, plain, type_line, global_line, name_tokens, parameter_tokens, header_tokens, declare_line, label_lines, phi_line, instruction_line, terminator_line, block_lines, blocks_lines, define_line, close_line, function_lines, functions_lines, lines}
-use Rattle.printed_tokens.proofs.Fronts.{Starts, Stays, is_word, word_stays, integer_stays, width_stays, string_stays, global_stays, local_stays, label_stays, mark_stays, brace_end_stays, packed_stays, packed_end_stays}
+use Rattle.printed_tokens.proofs.Fronts.{Stays, word_stays, integer_stays, width_stays, string_stays, global_stays, local_stays, label_stays, mark_stays, brace_end_stays, packed_stays, packed_end_stays}
 use Rattle.printed_tokens.proofs.Streams.{Each, IsLine, AreLines}
 
 -- each token stays
@@ -142,9 +141,14 @@ gep_stays : (base : Name) (ls : List GepLevel) → Stay (gep_tokens base ls)
 gep_stays base [] = (global_stays base.text, tt)
 gep_stays base (l ∷ ls) =
     let indices = others (map const_index_tokens l.indices) in
-    let end = both indices (codes ")" ∷ []) (others_stay (map const_index_tokens l.indices) (each_of const_index_tokens const_index_stays l.indices)) (round_end, tt) in
-    (word_stays (codes "getelementptr") refl, (round, both (type_tokens l.source) (codes "," ∷ codes "ptr" ∷ (gep_tokens base ls ++ (indices ++ codes ")" ∷ []))) (type_stays l.source)
-      (comma, (word_stays (codes "ptr") refl, both (gep_tokens base ls) (indices ++ codes ")" ∷ []) (gep_stays base ls) end))))
+    let end = both indices (codes ")" ∷ []) (others_stay (map const_index_tokens l.indices) (each_of const_index_tokens const_index_stays l.indices)) (round_end, tt) in (
+      word_stays (codes "getelementptr") refl,
+      (
+        round,
+        both (type_tokens l.source) (codes "," ∷ codes "ptr" ∷ (gep_tokens base ls ++ (indices ++ codes ")" ∷ []))) (type_stays l.source)
+            (comma, (word_stays (codes "ptr") refl, both (gep_tokens base ls) (indices ++ codes ")" ∷ []) (gep_stays base ls) end)),
+      ),
+    )
 
 form_stays : (form : ValueForm) → Stay (form_tokens form)
 form_stays (forms.Local name) = (local_stays name, tt)
@@ -249,13 +253,17 @@ operation_stays (operations.Load kind pointer) = (word_stays (codes "load") refl
 operation_stays (operations.Store kind value pointer) =
     (word_stays (codes "store") refl, both (type_tokens kind) (value_tokens value ++ codes "," ∷ pointer_tokens pointer) (type_stays kind) (pair_stays (value_tokens value) (pointer_tokens pointer) (value_stays value) (pointer_stays pointer)))
 operation_stays (operations.GetElementPtr source pointer indices) =
-    let list = map index_tokens indices in
-    (word_stays (codes "getelementptr") refl, pair_stays (type_tokens source) (pointer_tokens pointer ++ others list) (type_stays source)
-      (both (pointer_tokens pointer) (others list) (pointer_stays pointer) (others_stay list (each_of index_tokens index_stays indices))))
+    let list = map index_tokens indices in (
+      word_stays (codes "getelementptr") refl,
+      pair_stays (type_tokens source) (pointer_tokens pointer ++ others list) (type_stays source)
+          (both (pointer_tokens pointer) (others list) (pointer_stays pointer) (others_stay list (each_of index_tokens index_stays indices))),
+    )
 operation_stays (operations.Call result callee arguments) =
-    let list = map typed_tokens arguments in
-    (word_stays (codes "call") refl, both (result_tokens result) _ (result_stays result)
-      (global_stays callee.text, (round, both (separated list) (codes ")" ∷ []) (separated_stay list (each_of typed_tokens typed_stays arguments)) (round_end, tt))))
+    let list = map typed_tokens arguments in (
+      word_stays (codes "call") refl,
+      both (result_tokens result) _ (result_stays result)
+          (global_stays callee.text, (round, both (separated list) (codes ")" ∷ []) (separated_stay list (each_of typed_tokens typed_stays arguments)) (round_end, tt))),
+    )
 
 set_stays : (name : Option Name) → Stay (set_tokens name)
 set_stays (Some name) = (local_stays name.text, (equals, tt))
