@@ -62,7 +62,7 @@ label_longest b bs = go (eqb b 34) (is_digit b) (is_name_start b)
 -- ---- bytes
 
 -- no digit begins a name
-digit_no_start : (b : ℕ) → is_digit b ≡ true → is_name_start b ≡ false
+pub digit_no_start : (b : ℕ) → is_digit b ≡ true → is_name_start b ≡ false
 digit_no_start b e =
     let p = and_parts (leb 48 b) (leb b 57) e in
     let low = leb-true 48 b p.0 in
@@ -79,7 +79,7 @@ digit_no_start b e =
     go false c false f false false false true p q r s t u = absurd cc
     go false c false f false false false false p q r s t u = refl
 
-word_is_name : (b : ℕ) → is_word_start b ≡ true → is_name_start b ≡ true
+pub word_is_name : (b : ℕ) → is_word_start b ≡ true → is_name_start b ≡ true
 word_is_name b e = go (is_letter b) (eqb b 45) (eqb b 36) (eqb b 46) (eqb b 95) e
   where
     go : (a c d f g : Bool) → (a || g) ≡ true → (a || c || d || f || g) ≡ true
@@ -89,7 +89,7 @@ word_is_name b e = go (is_letter b) (eqb b 45) (eqb b 36) (eqb b 46) (eqb b 95) 
     go false false false true g h = refl
     go false false false false g h = h
 
-word_byte_is_name : (b : ℕ) → is_word_byte b ≡ true → is_name_byte b ≡ true
+pub word_byte_is_name : (b : ℕ) → is_word_byte b ≡ true → is_name_byte b ≡ true
 word_byte_is_name b e = go (is_letter b) (eqb b 45) (eqb b 36) (eqb b 46) (eqb b 95) (is_digit b) e
   where
     go : (a c d f g i : Bool) → ((a || g) || i || f) ≡ true → ((a || c || d || f || g) || i) ≡ true
@@ -101,14 +101,14 @@ word_byte_is_name b e = go (is_letter b) (eqb b 45) (eqb b 36) (eqb b 46) (eqb b
     go false false false false false true h = refl
     go false false false false false false h = h
 
-digit_is_name : (b : ℕ) → is_digit b ≡ true → is_name_byte b ≡ true
+pub digit_is_name : (b : ℕ) → is_digit b ≡ true → is_name_byte b ≡ true
 digit_is_name b e = go (is_name_start b) (is_digit b) e
   where
     go : (a c : Bool) → c ≡ true → (a || c) ≡ true
     go true c h = refl
     go false c h = h
 
-word_no_digit : (b : ℕ) → is_word_start b ≡ true → is_digit b ≡ false
+pub word_no_digit : (b : ℕ) → is_word_start b ≡ true → is_digit b ≡ false
 word_no_digit b e = go (is_digit b) (digit_no_start b) (word_is_name b e)
   where
     go : (x : Bool) → (x ≡ true → is_name_start b ≡ false) → is_name_start b ≡ true → x ≡ false
@@ -264,7 +264,7 @@ at_dot bs = with_label 46 (λ t. when (same (codes "..") t) kinds.Punct) bs (con
 -- ---- words, numbers and other first bytes
 
 -- the label of a byte that begins a name, and of a digit
-label_of_name : (b : ℕ) (bs : List ℕ) → eqb b 34 ≡ false → is_digit b ≡ false → is_name_start b ≡ true → label_behind b bs ≡ run_to is_name_byte (codes ":") bs
+pub label_of_name : (b : ℕ) (bs : List ℕ) → eqb b 34 ≡ false → is_digit b ≡ false → is_name_start b ≡ true → label_behind b bs ≡ run_to is_name_byte (codes ":") bs
 label_of_name b bs q d n = go (eqb b 34) (is_digit b) (is_name_start b) q d n
   where
     go : (x y z : Bool) → x ≡ false → y ≡ false → z ≡ true → cond x (run_to is_unquoted (codes "\":") bs) (cond y (run_to is_digit (codes ":") bs) (cond z (run_to is_name_byte (codes ":") bs) None)) ≡ run_to is_name_byte (codes ":") bs
@@ -273,7 +273,7 @@ label_of_name b bs q d n = go (eqb b 34) (is_digit b) (is_name_start b) q d n
     go false false false q d n = absurd cc
     go false false true q d n = refl
 
-label_of_digit : (b : ℕ) (bs : List ℕ) → eqb b 34 ≡ false → is_digit b ≡ true → label_behind b bs ≡ run_to is_digit (codes ":") bs
+pub label_of_digit : (b : ℕ) (bs : List ℕ) → eqb b 34 ≡ false → is_digit b ≡ true → label_behind b bs ≡ run_to is_digit (codes ":") bs
 label_of_digit b bs q d = go (eqb b 34) (is_digit b) q d
   where
     go : (x y : Bool) → x ≡ false → y ≡ true → cond x (run_to is_unquoted (codes "\":") bs) (cond y (run_to is_digit (codes ":") bs) (cond (is_name_start b) (run_to is_name_byte (codes ":") bs) None)) ≡ run_to is_digit (codes ":") bs

@@ -1,6 +1,6 @@
 //! Classes of bytes.
 
-ghost use Rattle.std.specs.Prelude.{◌≡◌};
+ghost use Rattle.std.specs.Prelude.{◌≡◌, []};
 ghost use Rattle.ir_lexer.specs.Forms as forms;
 ghost use Rattle.ir_lexer.specs.Lexing as lexing;
 ghost use Rattle.ir_lexer.specs.Classes.{in_class};
@@ -65,5 +65,37 @@ impl Class {
             Class::Digit => is_digit(byte),
             Class::Unquoted => byte != 34,
         }
+    }
+}
+
+/// Whether bytes are all of a class.
+fn are(class: Class, bytes: &[u8]) -> bool
+    ensures { result ≡ forms.runs_to (in_class class) [] bytes.now }
+{
+    for byte in bytes {
+        if !class.has(*byte) {
+            return false;
+        }
+    }
+    true
+}
+
+/// Whether a name stands without quotes.
+pub fn is_plain_name(name: &[u8]) -> bool
+    ensures { result ≡ forms.is_plain_name name.now }
+{
+    match name {
+        [] => false,
+        [first, rest @ ..] => is_name_start(*first) && are(Class::Name, rest),
+    }
+}
+
+/// Whether a name is a number.
+pub fn is_number(name: &[u8]) -> bool
+    ensures { result ≡ forms.is_number name.now }
+{
+    match name {
+        [] => false,
+        [first, rest @ ..] => is_digit(*first) && are(Class::Digit, rest),
     }
 }

@@ -2,7 +2,7 @@
 //! tokens that a text has.
 #![tactic(auto)]
 
-mod classes;
+pub mod classes;
 mod scan;
 #[cfg(test)]
 mod tests;

@@ -4,6 +4,7 @@ use Rattle.ir_tree.specs.declared.types.Name.{Name}
 use Rattle.ir_tree.specs.declared.instructions.Block.{Block}
 use Rattle.ir_tree.specs.declared.instructions.Phi.{Phi}
 use Rattle.ir_tree.specs.declared.instructions.Instruction.{Instruction}
+use Rattle.ir_tree.specs.declared.instructions.Terminator.{Terminator}
 use Rattle.ir_tree.specs.declared.module.TypeDefinition.{TypeDefinition}
 use Rattle.ir_tree.specs.declared.module.GlobalDefinition.{GlobalDefinition}
 use Rattle.ir_tree.specs.declared.module.Parameter.{Parameter}
@@ -55,15 +56,25 @@ phi_line p = inner (phi_tokens p)
 abbrev pub instruction_line : Instruction → Line
 instruction_line i = inner (instruction_tokens i)
 
+abbrev pub terminator_line : Terminator → Line
+terminator_line t = inner (terminator_tokens t.form)
+
 abbrev pub block_lines : Block → List Line
-block_lines b = label_lines b.label ++ (map phi_line b.phis ++ (map instruction_line b.instructions ++ inner (terminator_tokens b.terminator.form) ∷ []))
+block_lines b = label_lines b.label ++ (map phi_line b.phis ++ (map instruction_line b.instructions ++ terminator_line b.terminator ∷ []))
 
 abbrev pub blocks_lines : List Block → List Line
 blocks_lines [] = []
 blocks_lines (b ∷ bs) = block_lines b ++ blocks_lines bs
 
+-- define T @f(..) {
+abbrev pub define_line : Header → Line
+define_line h = plain (codes "define" ∷ (header_tokens h ++ codes "{" ∷ []))
+
+abbrev pub close_line : Line
+close_line = plain (codes "}" ∷ [])
+
 abbrev pub function_lines : FunctionDefinition → List Line
-function_lines f = plain (codes "define" ∷ (header_tokens f.header ++ codes "{" ∷ [])) ∷ (blocks_lines f.blocks ++ plain (codes "}" ∷ []) ∷ [])
+function_lines f = define_line f.header ∷ (blocks_lines f.blocks ++ close_line ∷ [])
 
 abbrev pub functions_lines : List FunctionDefinition → List Line
 functions_lines [] = []

@@ -15,10 +15,13 @@ abbrev pub hex_digit : ℕ → ℕ
 hex_digit n = if nat_lt n 10 then 48 + n else 55 + n
 
 -- `"`, `\` and bytes outside 32 to 126 are `\hh`
+abbrev pub is_escaped : ℕ → Bool
+is_escaped b = nat_lt b 32 || nat_lt 126 b || b == 34 || b == 92
+
 abbrev pub escaped : List ℕ → List ℕ
 escaped [] = []
 escaped (b ∷ bs) =
-    if nat_lt b 32 || nat_lt 126 b || b == 34 || b == 92 then 92 ∷ hex_digit (b / 16) ∷ hex_digit (b % 16) ∷ escaped bs else b ∷ escaped bs
+    if is_escaped b then 92 ∷ hex_digit (b / 16) ∷ hex_digit (b % 16) ∷ escaped bs else b ∷ escaped bs
 
 abbrev pub quoted : List ℕ → List ℕ
 quoted bs = 34 ∷ (escaped bs ++ 34 ∷ [])

@@ -2,12 +2,11 @@
 
 ghost use Rattle.std.specs.Prelude.{◌≡◌, ◌≤◌, ◌*◌, min, map, ◌<◌, length, if◌then◌else◌, MatchOption, IfSome, Option, None, Some};
 ghost use Rattle.layout.specs.Layout.{Extent};
-ghost use Rattle.ir_tree.specs.Texts as texts;
 ghost use Rattle.ir_tree.specs.Layout as spec;
 ghost use Rattle.ir_tree.specs.Extents.{Agrees, EndsAs};
 
 use crate::module::TypeDefinition;
-use crate::types::IrType;
+use crate::types::{IrType, is_same};
 use layout::aligned;
 
 /// One more byte than an object may have: sizes are told up to this one.
@@ -24,13 +23,6 @@ fn capped(size: u64) -> u64
     ensures { result ≡ min spec.most size }
 {
     size.min(MOST)
-}
-
-/// Whether two names are one.
-fn is_same(a: &[u8], b: &[u8]) -> bool
-    ensures { result ≡ texts.same a.now b.now }
-{
-    a == b
 }
 
 /// The type that a name stands for.

@@ -6,4 +6,5 @@ pub mod constants;
 pub mod instructions;
 pub mod layouts;
 pub mod module;
+pub mod printing;
 pub mod types;

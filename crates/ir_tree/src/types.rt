@@ -1,5 +1,8 @@
 //! Names, and types as a module writes them.
 
+ghost use Rattle.std.specs.Prelude.{◌≡◌};
+ghost use Rattle.ir_tree.specs.Texts as texts;
+
 use plain_list::Sequence;
 use sqlite_items::{Boxed, Items};
 
@@ -33,4 +36,11 @@ pub enum IrType {
         name: Sequence<u8>,
         at: u32,
     },
+}
+
+/// Whether two texts are one.
+pub(crate) fn is_same(a: &[u8], b: &[u8]) -> bool
+    ensures { result ≡ texts.same a.now b.now }
+{
+    a == b
 }

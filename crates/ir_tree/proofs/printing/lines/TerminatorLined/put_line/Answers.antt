@@ -1,0 +1,7 @@
+use Rattle.std.proofs.lemmas.Result.{on_ok_weaker}
+use Rattle.ir_tree.specs.Printing.{terminator_line}
+use Rattle.ir_tree.proofs.Lines.{line_put}
+use Rattle.ir_tree.proofs.printing.lines.TerminatorLined.put_line.Goals as goal
+
+pub returns : goal.returns
+returns c = on_ok_weaker c.end_line.result (λ e. line_put (terminator_line c.args.self.now) c.args.page.now _ _ c.end_line.new.self c.in_ok-begin_line.ensures c.in_ok-put_terminator.ensures e) c.end_line.ensures

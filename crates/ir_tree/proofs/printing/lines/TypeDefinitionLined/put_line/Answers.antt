@@ -1,0 +1,19 @@
+use Rattle.std.proofs.Common.{ap, ◌∙◌}
+use Rattle.std.specs.Prelude.{codes}
+use Rattle.std.proofs.lemmas.Result.{on_ok_weaker}
+use Rattle.ir_tree.specs.Texts.{local_text}
+use Rattle.ir_tree.specs.Spelling.{type_tokens}
+use Rattle.ir_tree.specs.Printing.{type_line}
+use Rattle.ir_tree.specs.Pages.{with_token, after}
+use Rattle.ir_tree.proofs.Lines.{line_put}
+use Rattle.ir_tree.proofs.printing.lines.TypeDefinitionLined.put_line.Goals as goal
+
+pub returns : goal.returns
+returns c =
+    let d = c.args.self.now in
+    on_ok_weaker c.end_line.result
+    (λ e. line_put (type_line d) c.args.page.now _ _ c.end_line.new.self c.in_ok-begin_line.ensures
+    (c.in_ok-put_type.ensures ∙ ap (λ u. after u (type_tokens d.kind)) (c.in_ok-put-2.ensures ∙ ap (λ u. with_token u (codes "type")) (c.in_ok-put.ensures ∙ ap (λ u. with_token u (codes "="))
+    (c.in_ok-put_local.ensures ∙ ap (λ n. with_token c.begin_line.new.self (local_text n)) c.as_slice.ensures))))
+    e)
+    c.end_line.ensures
