@@ -1,10 +1,9 @@
 -- Places of a table that has grown, and lists of places.
-use Rattle.std.proofs.Common.{◌≡◌, ◌<◌, ◌≤◌, ◌+◌, ◌*◌, ℕ, zero, suc, List, [], ◌∷◌, ◌++◌, length, take, drop, get_or, refl, sym, ap, ap₂, ◌∙◌, subst, arith, length-append, append_assoc, append-nil, ◌⊎◌, ⊎_elim}
+use Rattle.std.proofs.Common.{◌≡◌, ◌<◌, ◌≤◌, ◌+◌, ◌*◌, ℕ, zero, suc, List, [], ◌∷◌, ◌++◌, length, take, drop, get_or, replicate, refl, sym, ap, ap₂, ◌∙◌, subst, arith, length-append, append_assoc, append-nil}
 use Rattle.std.proofs.Common.{Result, Ok, Err}
 use Rattle.std.specs.Result.{IfOk}
 use Rattle.std.proofs.Math.ListN.{drop_of_length-le}
-use Rattle.std.proofs.lemmas.List.{drop_more, length-map, map-append, take-map, drop-map, get_or-drop, get_or-take}
-use Rattle.std.proofs.lemmas.Bool.{cases_lt}
+use Rattle.std.proofs.lemmas.List.{drop_more, length-map, map-append, take-map, drop-map}
 use Rattle.gates.specs.Bits.{Bit}
 use Rattle.nodes.specs.declared.table.Node.{Node}
 use Rattle.nodes.specs.Nodes.{bit_at, Grows}
@@ -65,6 +64,41 @@ bits_at-more nodes ks i h =
 
 pub bits_at-past : (nodes : List Node) (ks : List ℕ) (i : ℕ) → length ks ≤ i → bits_at nodes (drop i ks) ≡ []
 bits_at-past nodes ks i h = ap (bits_at nodes) (drop_of_length-le ks h) ∙ bits_at-none nodes
+
+-- places in the table, list by list
+
+pub within_none : (nodes : List Node) → AreWithin nodes []
+within_none nodes j low = absurd (omega arith)
+
+pub within_cons : (nodes : List Node) (k : ℕ) (ks : List ℕ) → k < length nodes → AreWithin nodes ks → AreWithin nodes (k ∷ ks)
+within_cons nodes k ks h all zero low = h
+within_cons nodes k ks h all (suc j) low = all j (omega arith)
+
+pub within_first : (nodes : List Node) (k : ℕ) (ks : List ℕ) → AreWithin nodes (k ∷ ks) → k < length nodes
+within_first nodes k ks all = all 0 (omega arith)
+
+pub within_rest : (nodes : List Node) (k : ℕ) (ks : List ℕ) → AreWithin nodes (k ∷ ks) → AreWithin nodes ks
+within_rest nodes k ks all j low = all (suc j) (omega arith)
+
+pub within_append : (nodes : List Node) (ks more : List ℕ) → AreWithin nodes ks → AreWithin nodes more → AreWithin nodes (ks ++ more)
+within_append nodes [] more p q = q
+within_append nodes (k ∷ ks) more p q =
+    within_cons nodes k (ks ++ more) (within_first nodes k ks p) (within_append nodes ks more (within_rest nodes k ks p) q)
+
+pub within_take : (nodes : List Node) (n : ℕ) (ks : List ℕ) → AreWithin nodes ks → AreWithin nodes (take n ks)
+within_take nodes zero ks p = within_none nodes
+within_take nodes (suc n) [] p = within_none nodes
+within_take nodes (suc n) (k ∷ ks) p =
+    within_cons nodes k (take n ks) (within_first nodes k ks p) (within_take nodes n ks (within_rest nodes k ks p))
+
+pub within_drop : (nodes : List Node) (n : ℕ) (ks : List ℕ) → AreWithin nodes ks → AreWithin nodes (drop n ks)
+within_drop nodes zero ks p = p
+within_drop nodes (suc n) [] p = within_none nodes
+within_drop nodes (suc n) (k ∷ ks) p = within_drop nodes n ks (within_rest nodes k ks p)
+
+pub within_replicate : (nodes : List Node) (n k : ℕ) → k < length nodes → AreWithin nodes (replicate n k)
+within_replicate nodes zero k h = within_none nodes
+within_replicate nodes (suc n) k h = within_cons nodes k (replicate n k) h (within_replicate nodes n k h)
 
 -- A row that is made place by place: what it denotes, with the bits that are still to come, is the whole row.
 pub record Builds (old now : List Node) (row : List ℕ) (rest whole : List Bit) : Type 0 where

@@ -1,1 +1,3 @@
+pub mod Divisions
 pub mod Gates
+pub mod Moves

@@ -1,4 +1,4 @@
-ghost use Rattle.std.specs.Prelude.{◌≡◌, ◌<◌, length, IfOk, OnOk, replicate};
+ghost use Rattle.std.specs.Prelude.{◌≡◌, ◌<◌, length, IfOk, OnOk};
 ghost use Rattle.nodes.specs.Nodes.{bit_at, Grows};
 ghost use Rattle.nodes.specs.Names.{bits_at, AreWithin};
 ghost use Rattle.rows.specs.Rows as rows;
@@ -70,17 +70,6 @@ pub fn inverted(alloc: Global, table: &mut Table, xs: &[usize]) -> Result<Vec<us
     let mut row = Vec::new(alloc);
     for i in 0..xs.len() {
         row.push(table.not(xs[i])?)?;
-    }
-    Ok(row)
-}
-
-/// One place, as often as asked.
-pub fn repeated(alloc: Global, len: usize, place: usize) -> Result<Vec<usize>, AllocError>
-    ensures { IfOk result (λ row. row.items ≡ replicate len place) }
-{
-    let mut row = Vec::new(alloc);
-    for _ in 0..len {
-        row.push(place)?;
     }
     Ok(row)
 }

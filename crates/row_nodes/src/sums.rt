@@ -4,7 +4,8 @@ ghost use Rattle.nodes.specs.Names.{bits_at, AreWithin};
 ghost use Rattle.rows.specs.Rows as rows;
 
 use crate::bits::full_adder;
-use crate::pairs::{Gate, each, inverted, repeated};
+use crate::moves::repeated;
+use crate::pairs::{Gate, each, inverted};
 use nodes::Table;
 use std::alloc::{AllocError, Global};
 
