@@ -18,13 +18,10 @@ use Rattle.nodes.specs.declared.table.Node.{Node}
 use Rattle.nodes.specs.declared.table.Node.TheVariants.{Constant, Input, Not, And, Xor}
 use Rattle.nodes.specs.Nodes.{bit_at, bit_of, bits_of, IsTable}
 use Rattle.nodes.specs.Names.{bits_at, node_of, is_gate, AreWithin, IsNaming}
+use Rattle.nodes.proofs.GrowthLemmas.{length-bits_at}
 use Rattle.nodes.proofs.NodeLemmas.{one_place}
 use Rattle.nodes.proofs.WalkLemmas.{bits_at-push, bit_at-node, above_at, met_append}
 use Rattle.gate_clauses.specs.Numbers.{IsNumbered, AreNumbers, signed}
-
-pub length-bits_at : (nodes : List Node) (names : List ℕ) → length (bits_at nodes names) ≡ length names
-unfolding bits_at
-length-bits_at nodes names = length-map names (bit_at nodes)
 
 get_or-bits_at : (nodes : List Node) (names : List ℕ) (n : ℕ) (d : Bit) → n < length names → get_or (bits_at nodes names) n d ≡ bit_at nodes (get_or names n 0)
 unfolding bits_at

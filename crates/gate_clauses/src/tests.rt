@@ -13,7 +13,7 @@ fn clauses_of_one(alloc: Global, table: &Table, k: usize) -> Result<Blasted, All
 }
 
 /// A condition of two input bits: that exactly one of them is 1.
-#[tactic(auto, using(crate::proofs::GrowthLemmas::still_within))]
+#[tactic(auto, using(nodes::proofs::GrowthLemmas::still_within))]
 fn exactly_one(alloc: Global) -> Result<Blasted, AllocError> {
     let mut table = Table::new(alloc);
     let low = table.input(7)?;
@@ -23,7 +23,7 @@ fn exactly_one(alloc: Global) -> Result<Blasted, AllocError> {
 }
 
 /// A gate on a gate.
-#[tactic(auto, using(crate::proofs::GrowthLemmas::still_within))]
+#[tactic(auto, using(nodes::proofs::GrowthLemmas::still_within))]
 fn gate_above(table: &mut Table, top: usize, side: usize) -> Result<usize, AllocError>
     requires top { top < length table.old }
     requires side { side < length table.old }
@@ -35,7 +35,7 @@ fn gate_above(table: &mut Table, top: usize, side: usize) -> Result<usize, Alloc
 }
 
 /// The clauses of a chain of gates.
-#[tactic(auto, using(crate::proofs::GrowthLemmas::still_within))]
+#[tactic(auto, using(nodes::proofs::GrowthLemmas::still_within))]
 fn chain(alloc: Global, gates: usize) -> Result<Blasted, AllocError> {
     let mut table = Table::new(alloc);
     let side = table.input(0)?;

@@ -3,7 +3,8 @@ use Rattle.std.proofs.lemmas.List.{length-map}
 use Rattle.gates.specs.Bits.{input}
 use Rattle.gates.specs.Clauses.{gates_of, inputs_of, met_after}
 use Rattle.nodes.specs.Names.{bits_at}
-use Rattle.gate_clauses.proofs.NumberLemmas.{naming_first, names_of_from, order_is, length-bits_at}
+use Rattle.nodes.proofs.GrowthLemmas.{length-bits_at}
+use Rattle.gate_clauses.proofs.NumberLemmas.{naming_first, names_of_from, order_is}
 use Rattle.gate_clauses.proofs.clauses.names_at.Goals as goal
 
 pub visit_all-requires-clause-naming : goal.visit_all-requires-clause-naming

@@ -1,0 +1,14 @@
+use Rattle.std.proofs.Common.{ap, ap₂, ◌∙◌}
+use Rattle.gates.specs.Bits.{fold_not, fold_and}
+use Rattle.nodes.specs.Nodes.{bit_at}
+use Rattle.nodes.proofs.FoldLemmas.{made_bit}
+use Rattle.nodes.proofs.GrowthLemmas.{stays, grows_on}
+use Rattle.row_nodes.proofs.bits.still_equal.Goals as goal
+
+pub returns-clause-bit : goal.returns-clause-bit
+returns-clause-bit c =
+    let old = c.args.table.now in
+    let one = c.xor.new.self in
+    let two = c.not.new.self in
+    let so_far = stays old two (grows_on old one two c.xor.ensures.grows c.not.ensures.grows) c.args.equal c.requires.below in
+    made_bit c.and.result (λ k. bit_at c.and.new.self k) _ _ c.and.ensures.bit (ap₂ fold_and so_far (c.in_ok-same.ensures.bit ∙ ap fold_not c.in_ok-differ.ensures.bit))

@@ -1,0 +1,13 @@
+use Rattle.std.proofs.Common.{ap, ◌∙◌}
+use Rattle.nodes.specs.Nodes.{bit_at}
+use Rattle.nodes.specs.Names.{bits_at}
+use Rattle.nodes.proofs.GrowthLemmas.{made}
+use Rattle.rows.specs.Rows.{fold_mux, each}
+use Rattle.row_nodes.proofs.MoveLemmas.{moved_bits}
+use Rattle.row_nodes.proofs.shifts.moved_where.Goals as goal
+
+pub returns-clause-bits : goal.returns-clause-bits
+returns-clause-bits c =
+    let old = c.args.table.now in
+    let there = ap (bits_at old) (c.deref.ensures.value ∙ c.in_ok-there.ensures) ∙ moved_bits old c.args.way c.args.by c.args.xs.now in
+    made c.each.result (λ row. bits_at c.each.new.table row.items) _ _ c.each.ensures.bits (ap (λ r. each (fold_mux (bit_at old c.args.test)) r (bits_at old c.args.xs.now)) there)
