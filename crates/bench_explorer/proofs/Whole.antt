@@ -1,12 +1,8 @@
 -- The loop names nothing but its own.
-use Rattle.std.proofs.Common.{ℕ, ◌<◌, List, [], ◌∷◌, Some, All, refl, arith}
+use Rattle.std.proofs.Common.{ℕ, ◌<◌, [], ◌∷◌, All, refl, arith}
 use Rattle.std.proofs.lemmas.List.Elements.{All-cons}
-use Rattle.bitnum.specs.declared.BinOp.TheVariants.{Add}
-use Rattle.bitnum.specs.declared.Pred.TheVariants.{Ult}
 use Rattle.flat_ir.specs.declared.names.NodeId.{NodeId}
 use Rattle.flat_ir.specs.declared.names.RegId.{RegId}
-use Rattle.flat_ir.specs.declared.nodes.Node.{Node}
-use Rattle.flat_ir.specs.declared.nodes.Node.TheVariants as node
 use Rattle.flat_ir.specs.declared.nodes.RegType.TheVariants as type
 use Rattle.flat_ir.specs.Whole.{IsWhole, IsFuncOf, IsNodeOf, IsWidth, OperandIn}
 use Rattle.bench_explorer.specs.Counting.{number, count, less, counts, compares, turns, returns, counting_main, counting}

@@ -1,5 +1,5 @@
 -- A loop that counts to a limit and returns the count.
-use Rattle.std.specs.Prelude.{ℕ, List, [], ◌∷◌, Some}
+use Rattle.std.specs.Prelude.{ℕ, [], ◌∷◌, Some}
 use Rattle.bitnum.specs.declared.BinOp.TheVariants.{Add}
 use Rattle.bitnum.specs.declared.Pred.TheVariants.{Ult}
 use Rattle.flat_ir.specs.declared.nodes.Node.{Node}

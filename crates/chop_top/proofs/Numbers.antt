@@ -1,5 +1,5 @@
 -- A resolved program has registers of numbers alone.
-use Rattle.std.proofs.Common.{◌≡◌, ℕ, Bool, true, false, not, ◌&&◌, ◌==◌, List, [], ◌∷◌, ◌++◌, length, Option, Some, None, All, refl, sym, ◌∙◌, subst, arith, if◌then◌else◌}
+use Rattle.std.proofs.Common.{◌≡◌, Bool, true, false, not, ◌&&◌, ◌==◌, List, [], ◌∷◌, ◌++◌, length, Option, Some, None, All, subst, arith, if◌then◌else◌}
 use Rattle.std.proofs.lemmas.List.Elements.{All-cons}
 use Rattle.flat_ir.specs.declared.nodes.Node.{Node}
 use Rattle.flat_ir.specs.declared.nodes.RegType.{RegType}

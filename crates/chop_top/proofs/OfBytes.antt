@@ -1,5 +1,5 @@
 -- What the code finds out of the bytes of a file, in the words of the definitions.
-use Rattle.std.proofs.Common.{◌≡◌, ℕ, ◌<◌, Bool, true, false, List, Option, Some, None, Result, Ok, Err, IfOk, slice_get, All, refl, sym, ◌∙◌, ap, subst, arith}
+use Rattle.std.proofs.Common.{◌≡◌, ℕ, Bool, true, false, List, Option, Some, None, Result, Ok, Err, IfOk, slice_get, sym, ◌∙◌, subst}
 use Rattle.std.proofs.lemmas.Option.{none-some, slice_get_within, get_or_from_slice_get}
 use Rattle.std.specs.declared.alloc.AllocError.{AllocError}
 use Rattle.flat_ir.specs.declared.program.Func.{Func}
@@ -10,9 +10,8 @@ use Rattle.flow.specs.Flow.{AreDefined}
 use Rattle.flow.specs.Named.{IsNamed}
 use Rattle.flow.specs.NamedLaws.{func_is_named}
 use Rattle.ir_tree.specs.declared.module.IrTree.{IrTree}
-use Rattle.ir_reader.specs.Reading.{IsReadAs}
 use Rattle.ir_resolve.specs.Programs.{resolved}
-use Rattle.chop_top.specs.Accepted.{IsDefined, Reads, IsTreeOf, IsProgramOf, Tells}
+use Rattle.chop_top.specs.Accepted.{IsDefined, Reads, IsTreeOf, Tells}
 
 some-same : {A : Type 0} (x y : A) → Some x ≡ Some y → x ≡ y
 some-same x y same = cc

@@ -29,7 +29,8 @@ const REPORT_OF_LOOP: &str = "options input=0 steps=100000 leaves=10000 shares=1
 total 1 complete 0 fault 0 skipped 0 open 1
 ";
 
-const UNNAMED: &str = "define i32 @main() { %1 = add i32 40, 2 br label %2 2: %3 = icmp ugt i32 %1, 41 br i1 %3, label %\"the end\", label %4 4: ret i32 0 \"the end\": ret i32 %1 }";
+const UNNAMED: &str =
+    "define i32 @main() { %1 = add i32 40, 2 br label %2 2: %3 = icmp ugt i32 %1, 41 br i1 %3, label %\"the end\", label %4 4: ret i32 0 \"the end\": ret i32 %1 }";
 
 const REPORT_OF_UNNAMED: &str = "options input=0 steps=100000 leaves=10000 shares=1024
 1 complete input=- status=42 output=- steps=5
@@ -80,9 +81,19 @@ fn explored<R: Threads + Wait + Sync>(
 #[test]
 fn refusals(rt: HostRuntime) -> Result<(), Fail> {
     for text in REFUSED {
-        let got = explored(&rt, rt.alloc(), &["explore", "--input", "0", "F"], text, (0, 0))?;
+        let got = explored(
+            &rt,
+            rt.alloc(),
+            &["explore", "--input", "0", "F"],
+            text,
+            (0, 0),
+        )?;
         assert_eq!(rt; got.0, Status::Refused, "at {text}");
-        assert_eq!(rt; got.1.as_slice(), b"refused NotBuilt\n".as_slice(), "at {text}");
+        assert_eq!(rt;
+            got.1.as_slice(),
+            b"refused NotBuilt\n".as_slice(),
+            "at {text}"
+        );
     }
     Ok(())
 }

@@ -1,9 +1,9 @@
 -- A state of the exploration goes along with each run.
-use Rattle.std.proofs.Common.{◌≡◌, ℕ, zero, suc, ◌+◌, ◌-◌, ◌<◌, ◌%◌, ◌^◌, Bool, true, false, not, ◌&&◌, ◌==◌, List, [], ◌∷◌, ◌++◌, map, slice_get, slice_set, Option, Some, None, unwrap_or, refl, sym, ◌∙◌, ap, subst, if◌then◌else◌, append-nil}
+use Rattle.std.proofs.Common.{◌≡◌, ℕ, Bool, true, false, not, ◌&&◌, ◌==◌, List, [], ◌∷◌, ◌++◌, map, slice_set, Option, Some, None, unwrap_or, refl, sym, ◌∙◌, ap, if◌then◌else◌}
 use Rattle.std.specs.Option.{option_map}
 use Rattle.std.proofs.lemmas.Bool.{false≢true}
 use Rattle.std.proofs.lemmas.List.{map-set}
-use Rattle.std.proofs.lemmas.Option.{slice_get-map, none-some, cond_some}
+use Rattle.std.proofs.lemmas.Option.{slice_get-map, none-some}
 use Rattle.bitnum.specs.Number.{Number}
 use Rattle.bitnum.specs.Operations.{applied, holds}
 use Rattle.bitnum.specs.declared.BinOp.{BinOp}
@@ -20,13 +20,12 @@ use Rattle.flat_ir.specs.declared.program.ProgramData.{ProgramData}
 use Rattle.flat_ir.specs.declared.values.ConcreteValue.{ConcreteValue}
 use Rattle.flat_ir.specs.declared.values.ConcreteValue.TheVariants.{Int, Ptr}
 use Rattle.flat_ir.specs.History.{output}
-use Rattle.flat_ir.specs.Registers.{null, number}
+use Rattle.flat_ir.specs.Registers.{null}
 use Rattle.flat_ir.specs.Machine.{Event, Branched, Loaded, Entered, Returned, Frame, End, Exited, Run, On, Over, value_in}
 use Rattle.flat_ir.specs.Machine as machine
 use Rattle.flat_ir.specs.Steps.{unless, division_fault, related, bit, low_byte, ended}
 use Rattle.flat_ir.specs.Skipped.{outside}
 use Rattle.flat_ir.specs.Steps as concrete
-use Rattle.explorer.specs.declared.exploring.Ending.{Ending}
 use Rattle.explorer.specs.declared.exploring.Ending.TheVariants.{Complete, Open}
 use Rattle.explorer.specs.Exploring.{State, Answer, Goes, Ends, number_of, is_division, combined, compared, bit_of, sets, turns, branches, returns, returned, executed}
 use Rattle.explorer.proofs.Frees.{output-ended}

@@ -1,5 +1,5 @@
 -- A frame's end writes nothing out.
-use Rattle.std.proofs.Common.{◌≡◌, ℕ, zero, suc, ◌+◌, List, [], ◌∷◌, ◌++◌, reverse, Option, Some, None, slice_get, unwrap_or, refl, ◌∙◌, ap}
+use Rattle.std.proofs.Common.{◌≡◌, ℕ, zero, suc, ◌+◌, List, [], ◌∷◌, ◌++◌, reverse, slice_get, unwrap_or, refl}
 use Rattle.flat_ir.specs.declared.names.NodeId.{NodeId}
 use Rattle.std.proofs.lemmas.List.{reverse-append}
 use Rattle.flat_ir.specs.declared.nodes.Node.{Node}

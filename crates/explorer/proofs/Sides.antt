@@ -1,11 +1,11 @@
 -- One step, as the code makes it.
-use Rattle.std.proofs.Common.{◌≡◌, ℕ, Bool, true, false, ◌==◌, List, [], ◌∷◌, ◌++◌, slice_set, Option, Some, refl, sym, ◌∙◌, ap, subst, if◌then◌else◌}
+use Rattle.std.proofs.Common.{◌≡◌, Bool, true, false, ◌==◌, List, [], ◌∷◌, ◌++◌, slice_set, Option, Some, refl, if◌then◌else◌}
 use Rattle.bitnum.specs.Number.{Number}
 use Rattle.flat_ir.specs.declared.names.NodeId.{NodeId}
 use Rattle.flat_ir.specs.declared.names.RegId.{RegId}
 use Rattle.flat_ir.specs.declared.program.ProgramData.{ProgramData}
 use Rattle.flat_ir.specs.Machine.{Event, Branched}
-use Rattle.explorer.specs.Exploring.{State, Answer, Goes, Ends, turns, branches, sets, executed}
+use Rattle.explorer.specs.Exploring.{State, Answer, Goes, turns, branches, sets}
 
 -- the state goes on at a node, and keeps its registers
 abbrev GoesTo : Answer → State → NodeId → Type 0

@@ -1,5 +1,5 @@
 -- What exploring gives from a state holds of the runs that go along with it; and the code's loop.
-use Rattle.std.proofs.Common.{◌≡◌, ℕ, zero, suc, ◌+◌, ◌-◌, ◌<◌, ◌==◌, Bool, true, false, List, [], ◌∷◌, ◌++◌, map, Option, Some, None, length, refl, sym, ◌∙◌, ap, subst, arith, if◌then◌else◌, add-one, append-nil, All, count_by, inl, inr}
+use Rattle.std.proofs.Common.{◌≡◌, ℕ, zero, suc, ◌+◌, ◌-◌, ◌<◌, ◌==◌, false, List, [], ◌∷◌, map, refl, sym, ◌∙◌, ap, subst, arith, add-one, append-nil, All, inl, inr}
 use Rattle.std.proofs.lemmas.List.Elements.{All-cons, All-head, All-tail}
 use Rattle.std.proofs.Math.Dec.{eqb-suc-zero}
 use Rattle.std.proofs.Math.Nat.{eq-zero-or-pos}
@@ -9,14 +9,11 @@ use Rattle.flat_ir.specs.declared.nodes.Node.{Node}
 use Rattle.flat_ir.specs.declared.nodes.RegType.{RegType}
 use Rattle.flat_ir.specs.declared.nodes.RegType.TheVariants as type
 use Rattle.flat_ir.specs.declared.program.ProgramData.{ProgramData}
-use Rattle.flat_ir.specs.declared.values.ConcreteValue.{ConcreteValue}
-use Rattle.flat_ir.specs.History.{output}
 use Rattle.flat_ir.specs.Registers.{zero_of}
-use Rattle.flat_ir.specs.Machine.{Event, Branched, Exited, Run, On, Over, state_of, nodes_of, regs_of, func_at, counted}
+use Rattle.flat_ir.specs.Machine.{Event, On, state_of, nodes_of, regs_of, func_at, counted}
 use Rattle.flat_ir.specs.Steps.{with_frame}
 use Rattle.flat_ir.specs.Run.{run, trace, goes_on, run-zero, run-suc, step-attempt}
-use Rattle.flat_ir.specs.Skipped.{outside, Returns}
-use Rattle.flat_ir.specs.Sound.{IsSound, IsInput, Claim}
+use Rattle.flat_ir.specs.Sound.{IsSound}
 use Rattle.flat_ir.specs.Steps as concrete
 use Rattle.explorer.specs.declared.exploring.Ending.{Ending}
 use Rattle.explorer.specs.declared.exploring.Ending.TheVariants.{Complete, Open}

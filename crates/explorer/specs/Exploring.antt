@@ -1,7 +1,6 @@
 -- The exploration of a program of one function whose registers are numbers, on no input: one state, attempt after attempt,
 -- until it ends. A state with no step left ends Open; else an attempt of its node takes one step.
 use Rattle.std.specs.Prelude.{◌≡◌, ℕ, ◌-◌, ◌%◌, ◌==◌, ◌&&◌, Bool, true, false, not, List, [], ◌∷◌, ◌++◌, map, Option, None, Some, slice_get, slice_set, unwrap_or, if◌then◌else◌}
-use Rattle.std.specs.Option.{option_map}
 use Rattle.bitnum.specs.Number.{Number}
 use Rattle.bitnum.specs.Operations.{applied, holds}
 use Rattle.bitnum.specs.declared.BinOp.{BinOp}

@@ -1,7 +1,6 @@
 -- Where an attempt leads, as the code says it: the path is left out, which no later step reads.
 use Rattle.std.specs.Prelude.{◌≡◌, ℕ, List, [], ◌∷◌}
 use Rattle.bitnum.specs.Number.{Number}
-use Rattle.flat_ir.specs.declared.names.NodeId.{NodeId}
 use Rattle.flat_ir.specs.declared.program.ProgramData.{ProgramData}
 use Rattle.flat_ir.specs.Machine.{Event}
 use Rattle.explorer.specs.declared.exploring.Led.{Led}

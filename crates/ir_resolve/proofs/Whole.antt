@@ -1,20 +1,18 @@
 -- A module's program names nothing but its own.
-use Rattle.std.proofs.Common.{◌≡◌, ℕ, zero, suc, ◌+◌, ◌<◌, ◌≤◌, ◌^◌, Bool, true, false, not, ◌&&◌, ◌==◌, List, [], ◌∷◌, ◌++◌, length, map, Option, Some, None, slice_get, nat_lt, nat_le, refl, sym, ◌∙◌, ap, subst, arith, All, if◌then◌else◌, append_assoc, length-append}
+use Rattle.std.proofs.Common.{◌≡◌, ℕ, suc, ◌+◌, ◌<◌, ◌≤◌, ◌^◌, Bool, true, false, not, ◌&&◌, ◌==◌, List, [], ◌∷◌, ◌++◌, length, Option, Some, None, nat_lt, nat_le, refl, sym, ◌∙◌, ap, subst, arith, All, if◌then◌else◌, append_assoc, length-append}
 use Rattle.std.proofs.lemmas.Bool.{false≢true, leb-true}
 use Rattle.std.proofs.lemmas.List.Elements.{All-cons, All-head}
-use Rattle.std.proofs.lemmas.Option.{none-some}
 use Rattle.bitnum.specs.declared.BinOp.{BinOp}
 use Rattle.bitnum.specs.declared.Pred.{Pred}
 use Rattle.flat_ir.specs.declared.names.NodeId.{NodeId}
 use Rattle.flat_ir.specs.declared.names.RegId.{RegId}
 use Rattle.flat_ir.specs.declared.nodes.Node.{Node}
-use Rattle.flat_ir.specs.declared.nodes.Node.TheVariants as node
 use Rattle.flat_ir.specs.declared.nodes.Operand.{Operand}
 use Rattle.flat_ir.specs.declared.nodes.Operand.TheVariants as operand
 use Rattle.flat_ir.specs.declared.nodes.RegType.{RegType}
 use Rattle.flat_ir.specs.declared.nodes.RegType.TheVariants as type
 use Rattle.flat_ir.specs.declared.program.ProgramData.{ProgramData}
-use Rattle.flat_ir.specs.Whole.{IsWhole, IsFuncOf, IsNodeOf, IsGlobalOf, OperandIn, IsWidth}
+use Rattle.flat_ir.specs.Whole.{IsWhole, IsFuncOf, IsNodeOf, OperandIn, IsWidth}
 use Rattle.ir_tree.specs.declared.instructions.Instruction.{Instruction}
 use Rattle.ir_tree.specs.declared.instructions.Operation.{Operation}
 use Rattle.ir_tree.specs.declared.instructions.Operation.TheVariants as operations
@@ -28,7 +26,7 @@ use Rattle.ir_tree.specs.Texts.{same}
 use Rattle.ir_resolve.specs.declared.names.Local.{Local}
 use Rattle.ir_resolve.specs.declared.names.Local.TheVariants.{Register, Label}
 use Rattle.ir_resolve.specs.declared.names.Named.{Named}
-use Rattle.ir_resolve.specs.Names.{text_of, result_width, named_results, named_in, found}
+use Rattle.ir_resolve.specs.Names.{result_width, named_results, named_in, found}
 use Rattle.ir_resolve.specs.Nodes as spec
 use Rattle.flat_ir.specs.declared.program.Func.{Func}
 use Rattle.ir_tree.specs.declared.module.FunctionDefinition.{FunctionDefinition}

@@ -1,5 +1,5 @@
 -- The names of a function (Language Reference, "Identifiers" and "Functions"): its blocks and its registers share one space.
-use Rattle.std.specs.Prelude.{ℕ, ◌+◌, Bool, true, false, not, ◌&&◌, ◌||◌, if◌then◌else◌, List, [], ◌∷◌, ◌++◌, length, map, Option, Some, None}
+use Rattle.std.specs.Prelude.{ℕ, ◌+◌, Bool, true, false, not, ◌&&◌, ◌||◌, if◌then◌else◌, List, [], ◌∷◌, ◌++◌, length, Option, Some, None}
 use Rattle.std.specs.Fmt.{decimal}
 use Rattle.ir_tree.specs.Texts.{same}
 use Rattle.ir_tree.specs.declared.types.Name.{Name}

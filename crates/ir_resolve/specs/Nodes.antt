@@ -1,6 +1,6 @@
 -- The nodes of a function, one for each instruction and each terminator, in the order of the text. What isn't built yet, and what the
 -- checks of names and types refuse, has none.
-use Rattle.std.specs.Prelude.{ℕ, zero, suc, ◌+◌, ◌-◌, ◌^◌, Bool, true, false, ◌&&◌, ◌==◌, nat_le, nat_lt, if◌then◌else◌, List, [], ◌∷◌, ◌++◌, length, map, Option, Some, None}
+use Rattle.std.specs.Prelude.{ℕ, ◌+◌, ◌^◌, Bool, true, false, ◌&&◌, ◌==◌, nat_le, nat_lt, if◌then◌else◌, List, [], ◌∷◌, length, Option, Some, None}
 use Rattle.bitnum.specs.Number.{Number}
 use Rattle.bitnum.specs.Operations.{applied}
 use Rattle.bitnum.specs.declared.BinOp.{BinOp}
@@ -12,14 +12,12 @@ use Rattle.flat_ir.specs.declared.nodes.Node.{Node}
 use Rattle.flat_ir.specs.declared.nodes.Node.TheVariants as node
 use Rattle.flat_ir.specs.declared.nodes.Operand.{Operand}
 use Rattle.flat_ir.specs.declared.nodes.Operand.TheVariants as operand
-use Rattle.ir_tree.specs.declared.types.Name.{Name}
 use Rattle.ir_tree.specs.declared.types.IrType.{IrType, out-IrType}
 use Rattle.ir_tree.specs.declared.types.IrType.TheOpen.{IrType-F}
 use Rattle.ir_tree.specs.declared.constants.Integer.{Integer}
 use Rattle.ir_tree.specs.declared.constants.Value.{Value}
 use Rattle.ir_tree.specs.declared.constants.ValueForm.{ValueForm}
 use Rattle.ir_tree.specs.declared.constants.ValueForm.TheVariants as forms
-use Rattle.ir_tree.specs.declared.instructions.Typed.{Typed}
 use Rattle.ir_tree.specs.declared.instructions.Operation.{Operation}
 use Rattle.ir_tree.specs.declared.instructions.Operation.TheVariants as operations
 use Rattle.ir_tree.specs.declared.instructions.Instruction.{Instruction}

@@ -1,5 +1,5 @@
 -- Nodes that are added to a list, as the code adds them.
-use Rattle.std.specs.Prelude.{◌≡◌, Bool, true, false, List, ◌++◌, Option, None, Vec, if◌then◌else◌}
+use Rattle.std.specs.Prelude.{◌≡◌, Bool, List, ◌++◌, Option, None, Vec, if◌then◌else◌}
 use Rattle.std.specs.Option.{option_map}
 use Rattle.std.specs.declared.alloc.Global.{Global}
 use Rattle.flat_ir.specs.declared.nodes.Node.{Node}

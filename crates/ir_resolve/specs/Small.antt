@@ -1,5 +1,5 @@
 -- Functions whose nodes and registers 32 bits can number.
-use Rattle.std.specs.Prelude.{ℕ, ◌≤◌, ◌^◌, length, All}
+use Rattle.std.specs.Prelude.{◌≤◌, ◌^◌, length, All}
 use Rattle.flat_ir.specs.declared.program.Func.{Func}
 use Rattle.flat_ir.specs.declared.program.ProgramData.{ProgramData}
 

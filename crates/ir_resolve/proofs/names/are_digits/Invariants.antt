@@ -1,4 +1,4 @@
-use Rattle.std.proofs.Common.{◌≡◌, drop, ◌++◌, List, Option}
+use Rattle.std.proofs.Common.{◌≡◌, drop}
 use Rattle.ir_grammar.specs.Tokens.{are_digits as digits_in}
 use Rattle.ir_resolve.proofs.names.are_digits.Given as goal
 

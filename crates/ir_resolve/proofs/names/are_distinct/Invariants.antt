@@ -1,4 +1,4 @@
-use Rattle.std.proofs.Common.{◌≡◌, drop, ◌++◌, List, Option}
+use Rattle.std.proofs.Common.{◌≡◌, drop}
 use Rattle.ir_resolve.specs.Names as spec
 use Rattle.ir_resolve.proofs.names.are_distinct.Given as goal
 

@@ -1,7 +1,6 @@
-use Rattle.std.proofs.Common.{◌≡◌, drop, ◌++◌, List, Option}
+use Rattle.std.proofs.Common.{◌≡◌, drop}
 use Rattle.ir_resolve.specs.Nodes as spec
 use Rattle.ir_resolve.specs.Pushes.{behind}
-use Rattle.flat_ir.specs.declared.nodes.Node.{Node}
 use Rattle.ir_resolve.proofs.nodes.nodes_in.Given as goal
 
 abbrev pub invariant-each : goal.invariant-each

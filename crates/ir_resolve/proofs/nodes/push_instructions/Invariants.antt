@@ -1,4 +1,4 @@
-use Rattle.std.proofs.Common.{◌≡◌, drop, ◌++◌, List, Option}
+use Rattle.std.proofs.Common.{◌≡◌, drop, List, Option}
 use Rattle.ir_resolve.specs.Nodes as spec
 use Rattle.ir_resolve.specs.Pushes.{behind}
 use Rattle.flat_ir.specs.declared.nodes.Node.{Node}

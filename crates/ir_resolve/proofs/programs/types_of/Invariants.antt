@@ -1,4 +1,4 @@
-use Rattle.std.proofs.Common.{◌≡◌, drop, ◌++◌, List, Option}
+use Rattle.std.proofs.Common.{◌≡◌, drop, ◌++◌}
 use Rattle.ir_resolve.specs.Programs as spec
 use Rattle.ir_resolve.proofs.programs.types_of.Given as goal
 
