@@ -1,0 +1,41 @@
+//! Texts that are read, printed, and read and printed again.
+use ir_lexer::text::lex;
+use ir_reader::text::read;
+use ir_tree::printing::print;
+use std::alloc::{AllocError, Global};
+use std::test::Fail;
+
+const SMALL: &str = "@s = private constant [3 x i8] c\"ab\\00\", align 1 define dso_local i32 @\"m\\61in\"(i8 %0) { %2 = add nsw i8 %0, -1 br label %3 3: ret i32 0 }";
+
+const PRINTED: &str = "@s = global [3 x i8] c\"ab\\00\"
+define i32 @main(i8 %0) {
+1:
+  %2 = add i8 %0, -1
+  br label %3
+3:
+  ret i32 0
+}
+";
+
+// What a text is printed as, if it is a module.
+fn printed_as(alloc: Global, text: &[u8]) -> Result<Option<Vec<u8>>, AllocError> {
+    if text.len() > 1000 {
+        return Ok(None);
+    }
+    let tokens = lex(alloc, text)?;
+    match read(alloc, text, tokens.as_slice()) {
+        Ok(tree) => Ok(Some(print(alloc, &tree)?)),
+        Err(_) => Ok(None),
+    }
+}
+
+#[test]
+fn printed_twice(rt: HostRuntime) -> Result<(), Fail> {
+    for text in [SMALL, PRINTED] {
+        match printed_as(rt.alloc(), text.as_bytes())? {
+            Some(printed) => assert_eq!(rt; printed.as_slice(), PRINTED.as_bytes()),
+            None => assert_eq!(rt; text, ""),
+        }
+    }
+    Ok(())
+}
