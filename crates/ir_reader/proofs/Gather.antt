@@ -4,7 +4,7 @@ use Rattle.std.proofs.lemmas.List.{append-nil}
 use Rattle.ir_tree.specs.declared.instructions.Phi.{Phi}
 use Rattle.ir_tree.specs.declared.instructions.Instruction.{Instruction}
 use Rattle.ir_tree.specs.declared.module.IrTree.{IrTree}
-use Rattle.phrases.specs.Piece.{Piece, Class, among, starts}
+use Rattle.phrases.specs.Piece.{Piece, Class, matches, among, starts}
 use Rattle.phrases.specs.Phrase.{Phrase, Outcome, got, refused, and_then, many_from}
 use Rattle.phrases.specs.Exact.{Exact}
 use Rattle.phrases.proofs.Classes.{among-append}
@@ -104,7 +104,23 @@ entities_later t (a_function x) es = tree_is (with_entities (with_entities t (a_
 
 -- ---- what may come next
 
+-- a class of its own
+pub alone : (c : Class) (p : Piece) → matches c p ≡ among (c ∷ []) p
+alone c p = or_none (matches c p)
+  where
+    or_none : (b : Bool) → b ≡ (b || false)
+    or_none true = refl
+    or_none false = refl
+
+-- the token is in none of the first classes
+pub past_these : (cs ds : List Class) (p : Piece) (found : Bool) → found ≡ among cs p → found ≡ false → among ds p ≡ among (cs ++ ds) p
+past_these cs ds p found e f = ap (λ b. b || among ds p) (sym f ∙ e) ∙ sym (among-append cs ds p)
+
+-- it is in one of them
+pub in_these : (cs ds : List Class) (p : Piece) (found : Bool) → found ≡ among cs p → found ≡ true → true ≡ among (cs ++ ds) p
+in_these cs ds p found e f = ap (λ b. b || among ds p) (sym f ∙ e) ∙ sym (among-append cs ds p)
+
 -- none of the first classes comes next
 pub past : (cs ds : List Class) (ts : List Piece) (found : Bool) → found ≡ starts cs ts → found ≡ false → starts ds ts ≡ starts (cs ++ ds) ts
 past cs ds [] found e f = refl
-past cs ds (p ∷ ps) found e f = ap (λ b. b || among ds p) (sym f ∙ e) ∙ sym (among-append cs ds p)
+past cs ds (p ∷ ps) found e f = past_these cs ds p found e f

@@ -9,7 +9,7 @@ pub returns-else-has_kind-2 : goal.returns-else-has_kind-2
 returns-else-has_kind-2 c =
     let ts = pieces c.args.source in
     let last = words (codes "declare" ∷ codes "define" ∷ []) in
-    c.has_word_of-2.ensures
-    ∙ past (a_global ∷ []) last ts c.has_kind-2.result c.has_kind-2.ensures c.if-has_kind-2.false
-    ∙ past (a_local ∷ []) (a_global ∷ last) ts c.has_kind.result c.has_kind.ensures c.if-has_kind.false
-    ∙ past (words (codes "source_filename" ∷ codes "target" ∷ codes "attributes" ∷ [])) (a_local ∷ a_global ∷ last) ts c.has_word_of.result c.has_word_of.ensures c.if-has_word_of.false
+    c.has_word_of-else-has_kind-2.ensures
+    ∙ past (a_global ∷ []) last ts _ c.has_kind-else-has_kind.ensures c.if-has_kind-2.false
+    ∙ past (a_local ∷ []) (a_global ∷ last) ts _ c.has_kind.ensures c.if-has_kind.false
+    ∙ past (words (codes "source_filename" ∷ codes "target" ∷ codes "attributes" ∷ [])) (a_local ∷ a_global ∷ last) ts _ c.has_word_of.ensures c.if-has_word_of.false

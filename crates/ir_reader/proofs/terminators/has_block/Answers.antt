@@ -10,5 +10,5 @@ returns-else-has_kind-2 c =
     let ts = pieces c.args.source in
     let last = words (codes "store" ∷ codes "tail" ∷ codes "notail" ∷ codes "call" ∷ codes "ret" ∷ codes "br" ∷ codes "switch" ∷ codes "unreachable" ∷ []) in
     c.has_word_of.ensures
-    ∙ past (a_local ∷ []) last ts c.has_kind-2.result c.has_kind-2.ensures c.if-has_kind-2.false
-    ∙ past (a_label ∷ []) (a_local ∷ last) ts c.has_kind.result c.has_kind.ensures c.if-has_kind.false
+    ∙ past (a_local ∷ []) last ts _ c.has_kind-else-has_kind.ensures c.if-has_kind-2.false
+    ∙ past (a_label ∷ []) (a_local ∷ last) ts _ c.has_kind.ensures c.if-has_kind.false
