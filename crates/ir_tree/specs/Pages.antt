@@ -31,8 +31,8 @@ comma_before index = if index == 0 then [] else codes "," ∷ []
 -- ---- bytes of one token
 
 -- a token begins that is none of the marks without a space
-abbrev pub opened : Written → ℕ → Written
-opened w first = record { text = (w.text ++ (if w.glued then [] else codes " ")) ++ first ∷ []; glued = false }
+abbrev pub opened : Written → Written
+opened w = record { text = w.text ++ (if w.glued then [] else codes " "); glued = false }
 
 abbrev pub extended : Written → List ℕ → Written
 extended w bs = record { text = w.text ++ bs; glued = w.glued }

@@ -1,7 +1,7 @@
 -- The tokens that a tree is printed with stay the longest in front of whatever is printed behind them.
-use Rattle.std.proofs.Common.{◌≡◌, ℕ, zero, suc, ◌+◌, ◌/◌, ◌%◌, ◌<◌, Bool, true, false, cond, ◌&&◌, ◌||◌, ◌⊎◌, inl, inr, List, [], ◌∷◌, ◌++◌, length, take, drop, Option, Some, None, eqb, ltb, refl, sym, ap, subst, ◌∙◌, arith, append_assoc, length-append}
+use Rattle.std.proofs.Common.{◌≡◌, ℕ, suc, ◌+◌, ◌/◌, ◌%◌, Bool, true, false, cond, ◌&&◌, ◌||◌, List, [], ◌∷◌, ◌++◌, length, take, drop, Option, Some, None, eqb, ltb, refl, sym, ap, subst, ◌∙◌, arith, append_assoc, length-append}
 use Rattle.std.specs.Prelude.{◌==◌, codes, not}
-use Rattle.std.specs.Fmt.{digit_glyph, digits_onto, digits, decimal}
+use Rattle.std.specs.Fmt.{decimal}
 use Rattle.std.proofs.lemmas.Bool.{eqb-true, and_parts}
 use Rattle.ir_lexer.specs.declared.token.TokenKind.{TokenKind}
 use Rattle.ir_lexer.specs.declared.token.TokenKind.TheVariants as kinds
@@ -11,17 +11,10 @@ use Rattle.ir_lexer.specs.Scanning.{run, begins, run_to, one_more, plain_behind,
 use Rattle.ir_lexer.proofs.Found.{label_of_name, label_of_digit, digit_no_start, word_is_name, word_byte_is_name, digit_is_name, word_no_digit}
 use Rattle.ir_tree.specs.declared.constants.Integer.{Integer}
 use Rattle.ir_tree.specs.Texts as texts
+use Rattle.ir_tree.proofs.Writing.{apart, decimal_is_number}
 use Rattle.ir_tree.specs.Texts.{no_space_behind, hex_digit, is_escaped, escaped, name_text, global_text, local_text, label_text, integer_text, width_text, string_text}
 
 -- ---- bytes
-
--- two bytes of which one is in a class and the other isn't
-apart : (f : ℕ → Bool) (b c : ℕ) → f b ≡ true → f c ≡ false → eqb b c ≡ false
-apart f b c is isnt = go (eqb b c) refl
-  where
-    go : (x : Bool) → eqb b c ≡ x → x ≡ false
-    go false e = refl
-    go true e = absurd (let h = ap f (eqb-true b c e) in cc)
 
 -- a byte at which no blank and no comment begins
 pub record Starts (b : ℕ) : Type 0 where
@@ -267,26 +260,6 @@ minus_stays : (t : List ℕ) → is_number t ≡ true → Stays (45 ∷ t)
 minus_stays t h = stays (45 ∷ t) kinds.Int (record { blank = refl; comment = refl; bang = refl }) refl (λ next s. minus_front t next h s)
 
 -- the digits of a number
-glyph_is_digit : (n : ℕ) → n < 10 → is_digit (digit_glyph false n) ≡ true
-glyph_is_digit n lt = grind arith
-
-digits_stay : (k n : ℕ) (acc : List ℕ) → runs_to is_digit [] acc ≡ true → (is_number acc ≡ true) ⊎ (0 < k) → is_number (digits_onto k 10 false n acc) ≡ true
-digits_stay zero n acc all (inl some) = some
-digits_stay zero n acc all (inr some) = absurd (omega (arith, some))
-digits_stay (suc k) n acc all some =
-    let b = digit_glyph false (n % 10) in
-    let h : is_digit b ≡ true = glyph_is_digit (n % 10) (omega arith) in
-    let longer : is_number (b ∷ acc) ≡ true = ap (λ y. y && runs_to is_digit [] acc) h ∙ all in
-    go (n / 10 == 0) b longer (digits_stay k (n / 10) (b ∷ acc) (ap (λ y. cond y (runs_to is_digit [] acc) false) h ∙ all) (inl longer))
-  where
-    go : (x : Bool) (b : ℕ) → is_number (b ∷ acc) ≡ true → is_number (digits_onto k 10 false (n / 10) (b ∷ acc)) ≡ true → is_number (cond x (b ∷ acc) (digits_onto k 10 false (n / 10) (b ∷ acc))) ≡ true
-    go true b here more = here
-    go false b here more = more
-
-pub decimal_is_number : (n : ℕ) → is_number (decimal n) ≡ true
-unfolding digits
-decimal_is_number n = digits_stay 64 n [] refl (inr (omega arith))
-
 decimal_digits : (n : ℕ) → runs_to is_digit [] (decimal n) ≡ true
 decimal_digits n = go (decimal n) (decimal_is_number n)
   where

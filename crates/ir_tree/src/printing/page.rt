@@ -15,7 +15,6 @@ use std::marker::Model;
 /// What is written so far, and whether the next token stands at once behind it.
 #[derive(Drop)]
 pub struct Page {
-    alloc: Global,
     text: Vec<u8>,
     glued: bool,
 }
@@ -67,7 +66,6 @@ impl Page {
         ensures { result ≡ record { text = []; glued = true } }
     {
         Page {
-            alloc,
             text: Vec::new(alloc),
             glued: true,
         }
@@ -77,7 +75,7 @@ impl Page {
     pub fn into_text(self) -> Vec<u8>
         ensures { result.items ≡ self.text }
     {
-        let Page { text, .. } = self;
+        let Page { text, glued: _ } = self;
         text
     }
 
@@ -129,15 +127,22 @@ impl Page {
         Ok(())
     }
 
-    /// Begins a token that is no mark, by its first byte.
-    fn begin_token(&mut self, first: u8) -> Result<(), AllocError>
-        ensures { OnOk result (self.new ≡ opened self.old first) }
+    /// Begins a token that is no mark.
+    fn open(&mut self) -> Result<(), AllocError>
+        ensures { OnOk result (self.new ≡ opened self.old) }
     {
         let glued = self.glued;
         self.space_unless(glued)?;
         self.glued = false;
-        self.text.push(first)?;
         Ok(())
+    }
+
+    /// Begins a token that is no mark, by its first byte.
+    fn begin_token(&mut self, first: u8) -> Result<(), AllocError>
+        ensures { OnOk result (self.new ≡ extended (opened self.old) (first ∷ [])) }
+    {
+        self.open()?;
+        self.extend(&[first])
     }
 
     /// Puts bytes at the end of a token.
@@ -216,8 +221,11 @@ impl Page {
     fn extend_decimal(&mut self, number: u64) -> Result<(), AllocError>
         ensures { OnOk result (self.new ≡ extended self.old (decimal number)) }
     {
-        let digits = number.to_string(self.alloc)?;
-        self.extend(digits.as_bytes())
+        if number < 10 {
+            return self.extend(&[48 + number as u8]);
+        }
+        self.extend_decimal(number / 10)?;
+        self.extend(&[48 + (number % 10) as u8])
     }
 
     /// Puts a number.
@@ -228,8 +236,8 @@ impl Page {
             self.begin_token(b'-')?;
             return self.extend_decimal(number.magnitude);
         }
-        let digits = number.magnitude.to_string(self.alloc)?;
-        self.put(digits.as_bytes())
+        self.open()?;
+        self.extend_decimal(number.magnitude)
     }
 
     /// Puts an integer type, by its number of bits.
