@@ -115,7 +115,11 @@ fn print_formula(rt: &HostRuntime, formula: &Formula) -> io::Result<()> {
 fn done(rt: &HostRuntime, work: Work, kind: Kind, bytes: u8, times: u32) -> io::Result<()>
     requires { bytes ≤ 8 }
 {
-    let repeated = if matches!(work, Work::Clauses) { times } else { 0 };
+    let repeated = if matches!(work, Work::Clauses) {
+        times
+    } else {
+        0
+    };
     let Ok(blasted) = made_anew(rt.alloc(), kind, bytes, repeated) else {
         return println!(rt; "no memory");
     };
@@ -131,9 +135,12 @@ fn done(rt: &HostRuntime, work: Work, kind: Kind, bytes: u8, times: u32) -> io::
 
 fn main(rt: HostRuntime) -> io::Result<()> {
     let mut words = env::args(&rt)?.skip(1);
-    let (Some(work), Some(kind), Some(bytes), Some(times)) =
-        (words.next(), words.next(), words.next(), words.next())
-    else {
+    let (Some(work), Some(kind), Some(bytes), Some(times)) = (
+        words.next(),
+        words.next(),
+        words.next(),
+        words.next(),
+    ) else {
         println!(rt; "usage: bench_solver clauses|search|dimacs equal|sum|less BYTES TIMES")?;
         return Ok(());
     };
