@@ -1,7 +1,7 @@
 -- Rows of terms.
-use Rattle.std.proofs.Common.{◌≡◌, ◌<◌, ◌≤◌, ◌+◌, ◌-◌, ◌*◌, ℕ, zero, suc, List, [], ◌∷◌, ◌++◌, length, take, drop, replicate, refl, sym, ap, ap₂, ◌∙◌, subst, arith, append-nil, Vec, Global, ◌⊎◌, inl, inr, Result, Ok, Err, None, Some}
+use Rattle.std.proofs.Common.{◌≡◌, ◌<◌, ◌≤◌, ◌+◌, ◌-◌, ◌*◌, ℕ, zero, suc, List, [], ◌∷◌, ◌++◌, length, take, drop, replicate, sym, ap, ap₂, ◌∙◌, subst, arith, append-nil, Vec, Global, ◌⊎◌, inl, inr, Result, Ok, Err, None, Some}
 use Rattle.std.specs.Result.{IfOk, OnOk}
-use Rattle.bitnum.specs.Number.{Number, IsWidth, IsNumber}
+use Rattle.bitnum.specs.Number.{Number, IsWidth}
 use Rattle.gates.specs.Bits.{Bit, input}
 use Rattle.nodes.specs.declared.table.Node.{Node}
 use Rattle.nodes.specs.Nodes.{bit_at, Grows}

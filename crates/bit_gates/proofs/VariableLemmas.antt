@@ -1,8 +1,8 @@
 -- The variables of the clauses of a condition are below the number of its names.
-use Rattle.std.proofs.Common.{◌≡◌, ◌<◌, ◌+◌, ℕ, suc, Bool, true, false, List, [], ◌∷◌, ◌++◌, map, flat_map, length, get_or, refl, sym, ap, subst, ◌∙◌, ⊎_elim, arith}
+use Rattle.std.proofs.Common.{◌≡◌, ◌<◌, ℕ, suc, Bool, true, false, List, [], ◌∷◌, ◌++◌, map, flat_map, length, sym, subst, ◌∙◌, ⊎_elim, arith}
 use Rattle.std.specs.List.{list_any, filter, AllByRecursion}
 use Rattle.std.specs.Prelude.{All}
-use Rattle.std.proofs.lemmas.Bool.{or_cases, or_left, or_right, false≢true, cases_Bool, cond-true, cond-false, eq-eqb, true≢false}
+use Rattle.std.proofs.lemmas.Bool.{or_cases, or_left, or_right, false≢true, cases_Bool, cond-true, cond-false, true≢false}
 use Rattle.std.proofs.lemmas.List.Elements.{All-from_recursion, recursion_from_All}
 use Rattle.cnf.specs.declared.Lit.{Lit}
 use Rattle.cnf.specs.Cnf.{IsBelow}
@@ -16,9 +16,9 @@ use Rattle.gates.proofs.MeaningLemmas.{known_names}
 number_below : (names : List Bit) (e : Bit) → has names e ≡ true → number_of names e < length names
 number_below [] e h = absurd (false≢true h)
 number_below (n ∷ names) e h = ⊎_elim (λ yes. let is = cond-true (same_bit e n) 0 (suc (number_of names e)) yes in omega arith) (λ no.
-  let is = cond-false (same_bit e n) 0 (suc (number_of names e)) no in
-  let rest = number_below names e (⊎_elim (λ a. absurd (true≢false (sym a ∙ no))) (λ b. b) (or_cases (same_bit e n) (has names e) h)) in
-  omega arith) (cases_Bool (same_bit e n))
+    let is = cond-false (same_bit e n) 0 (suc (number_of names e)) no in
+    let rest = number_below names e (⊎_elim (λ a. absurd (true≢false (sym a ∙ no))) (λ b. b) (or_cases (same_bit e n) (has names e) h)) in
+    omega arith) (cases_Bool (same_bit e n))
 
 module _ (N : List Bit) where
   abbrev IsIn : Lit → Type 0

@@ -1,14 +1,14 @@
 -- Constants, moves, products, shifts and divisions of rows.
-use Rattle.std.proofs.Common.{◌≡◌, ◌<◌, ◌≤◌, ◌+◌, ◌-◌, ◌*◌, ◌/◌, ◌%◌, ℕ, zero, suc, Bool, true, false, cond, ltb, eqb, List, [], ◌∷◌, ◌++◌, length, take, drop, get_or, replicate, refl, sym, ap, ap₂, ◌∙◌, subst, arith, length-append, append-nil}
+use Rattle.std.proofs.Common.{◌≡◌, ◌<◌, ◌≤◌, ◌+◌, ◌-◌, ◌*◌, ◌/◌, ◌%◌, ℕ, zero, suc, false, ltb, eqb, List, [], ◌∷◌, ◌++◌, length, take, drop, get_or, replicate, refl, sym, ap, ap₂, ◌∙◌, arith, length-append}
 use Rattle.std.proofs.lemmas.Bool.{cond-true, cond-false, lt-ltb, le-ltb}
 use Rattle.std.proofs.lemmas.List.{length-take-le}
-use Rattle.gates.specs.Bits.{Bit, constant, fold_not, fold_and, fold_xor}
+use Rattle.gates.specs.Bits.{Bit, constant, fold_not, fold_and}
 use Rattle.nodes.specs.declared.table.Node.{Node}
 use Rattle.nodes.specs.Nodes.{bit_at, Grows}
 use Rattle.nodes.specs.Names.{bits_at, AreWithin}
-use Rattle.nodes.proofs.GrowthLemmas.{stays, within_take, within_append, within_replicate, bits_at-more, bits_at-past, bits_at-cons, bits_at-none, bits_at-take, bits_at-drop, bits_at-append, length-bits_at}
-use Rattle.rows.specs.Rows.{fold_mux, fills, constant_bits, each, added, masked, guarded, multiplied, top, moved_up, moved_down, moved_by, chosen, too_far, less, subtracted, Division, division, next_division}
-use Rattle.row_nodes.specs.Divisions.{Trial, trial}
+use Rattle.nodes.proofs.GrowthLemmas.{stays, within_take, within_append, within_replicate, bits_at-more, bits_at-past, bits_at-take, bits_at-drop, bits_at-append, length-bits_at}
+use Rattle.rows.specs.Rows.{fills, constant_bits, each, added, masked, guarded, multiplied, top, moved_up, moved_down, moved_by, chosen, less, subtracted, Division, division, next_division}
+use Rattle.row_nodes.specs.Divisions.{trial}
 use Rattle.row_nodes.specs.declared.shifts.Move.{Move}
 use Rattle.row_nodes.specs.declared.shifts.Move.TheVariants.{Up, Down}
 use Rattle.row_nodes.specs.Moves.{places_moved, bits_moved, FillsWithin}

@@ -1,13 +1,13 @@
 -- The steps of the loops over rows.
-use Rattle.std.proofs.Common.{◌≡◌, ◌<◌, ◌≤◌, ◌+◌, ℕ, zero, suc, true, List, [], ◌∷◌, ◌++◌, length, drop, get_or, replicate, refl, sym, ap, ap₂, ◌∙◌, subst, arith, length-append}
-use Rattle.gates.specs.Bits.{Bit, constant, fold_not, fold_and, fold_xor}
+use Rattle.std.proofs.Common.{◌≡◌, ◌<◌, ◌≤◌, ◌+◌, ℕ, zero, suc, List, [], ◌∷◌, ◌++◌, length, drop, get_or, replicate, refl, sym, ap, ap₂, ◌∙◌, subst, arith, length-append}
+use Rattle.gates.specs.Bits.{Bit, fold_not, fold_and, fold_xor}
 use Rattle.nodes.specs.declared.table.Node.{Node}
 use Rattle.nodes.specs.Nodes.{bit_at, Grows}
 use Rattle.nodes.specs.Names.{bits_at, AreWithin}
 use Rattle.std.proofs.lemmas.List.{get_or_append_left, get_or_push}
 use Rattle.nodes.proofs.WalkLemmas.{bits_at-push}
 use Rattle.nodes.proofs.GrowthLemmas.{stays, all_stay, bits_at-more, bits_at-past, bits_at-cons, bits_at-none}
-use Rattle.rows.specs.Rows.{fold_or, fold_mux, fills, each, inverted, added, below, alike, top, top_turned}
+use Rattle.rows.specs.Rows.{fold_or, fold_mux, fills, each, inverted, added, below, alike, top_turned}
 use Rattle.row_nodes.specs.declared.pairs.Gate.{Gate}
 use Rattle.row_nodes.specs.declared.pairs.Gate.TheVariants.{And, Or, Xor, Choice}
 use Rattle.row_nodes.specs.Gates.{folded, IsWithin}

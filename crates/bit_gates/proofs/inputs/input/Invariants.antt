@@ -1,4 +1,4 @@
-use Rattle.std.proofs.Common.{◌≡◌, ◌-◌, length}
+use Rattle.std.proofs.Common.{◌-◌}
 use Rattle.nodes.proofs.GrowthLemmas.{Builds}
 use Rattle.bit_gates.proofs.TermRows.{byte_bits}
 use Rattle.bit_gates.proofs.inputs.input.Given as goal

@@ -1,10 +1,10 @@
-use Rattle.std.proofs.Common.{◌≡◌, ◌<◌, ◌≤◌, ◌-◌, length, get_or, IfSome, sym, ap, ap₂, ◌∙◌, subst, arith}
+use Rattle.std.proofs.Common.{◌<◌, ◌≤◌, ◌-◌, length, IfSome, sym, ap, ap₂, ◌∙◌, subst, arith}
 use Rattle.rows.specs.Rows.{constant_bits}
 use Rattle.nodes.specs.Nodes.{bit_at}
-use Rattle.nodes.specs.Names.{bits_at, AreWithin}
-use Rattle.nodes.proofs.GrowthLemmas.{stays, grows_on, lent}
+use Rattle.nodes.specs.Names.{bits_at}
+use Rattle.nodes.proofs.GrowthLemmas.{grows_on, lent}
 use Rattle.rows.specs.Rows.{top}
-use Rattle.terms.specs.Tree.{Tree, one, two, choice, IsTree, FitsOne}
+use Rattle.terms.specs.Tree.{one, two, choice, IsTree, FitsOne}
 use Rattle.terms.specs.Nodes.{tree_of}
 use Rattle.bit_gates.specs.Rows.{IsRow}
 use Rattle.bit_gates.proofs.TermRows.{row_width, row_some, row_most, row_stays, row_like, rows_stay, one_row, two_row, choice_row, held, made_row, grown_known, bits_of-constant, bits_of-input}

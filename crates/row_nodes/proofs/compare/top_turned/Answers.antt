@@ -1,4 +1,4 @@
-use Rattle.std.proofs.Common.{length, sym, ap₂, ◌∙◌}
+use Rattle.std.proofs.Common.{sym, ap₂, ◌∙◌}
 use Rattle.nodes.proofs.WalkLemmas.{empty_of}
 use Rattle.nodes.specs.Names.{bits_at}
 use Rattle.row_nodes.proofs.RowLemmas.{turned_top, turned_none}

@@ -1,7 +1,5 @@
-use Rattle.std.proofs.Common.{◌≡◌, ◌<◌, ◌≤◌, ◌+◌, ◌-◌, ◌++◌, [], ◌∷◌, false, length, drop, get_or, arith, refl, sym, ap, ap₂, ◌∙◌, subst}
+use Rattle.std.proofs.Common.{◌≡◌, ◌<◌, ◌-◌, ◌++◌, [], ◌∷◌, length, drop, get_or, arith, sym, ap, ap₂, ◌∙◌, subst}
 use Rattle.std.proofs.lemmas.List.{length-replicate}
-use Rattle.gates.specs.Bits.{constant}
-use Rattle.nodes.specs.Nodes.{bit_at}
 use Rattle.nodes.specs.Names.{bits_at, AreWithin}
 use Rattle.nodes.proofs.WalkLemmas.{bits_at-push}
 use Rattle.nodes.proofs.GrowthLemmas.{stays, all_stay, all_within, grows_none, grows_on, bits_at-none, bits_at-cons, length-bits_at, within_none, within_cons, within_replicate}

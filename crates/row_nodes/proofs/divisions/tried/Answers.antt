@@ -1,7 +1,7 @@
 use Rattle.std.proofs.Common.{◌-◌, length, take, sym, ap, ap₂, ◌∙◌}
 use Rattle.gates.specs.Bits.{fold_not}
 use Rattle.nodes.specs.Names.{bits_at}
-use Rattle.nodes.proofs.GrowthLemmas.{stays, all_stay, grows_on, lent, bits_at-take, length-bits_at}
+use Rattle.nodes.proofs.GrowthLemmas.{stays, all_stay, grows_on, bits_at-take, length-bits_at}
 use Rattle.rows.specs.Rows.{fold_mux, each, subtracted}
 use Rattle.row_nodes.proofs.divisions.tried.Goals as goal
 

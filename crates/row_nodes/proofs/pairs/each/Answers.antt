@@ -1,8 +1,6 @@
-use Rattle.std.proofs.Common.{[], ◌∷◌, ◌<◌, ◌+◌, length, drop, get_or, arith, sym, ap, ap₂, ◌∙◌, length-append}
+use Rattle.std.proofs.Common.{[], ◌∷◌, ◌<◌, length, get_or, arith, ap, ap₂, ◌∙◌, length-append}
 use Rattle.nodes.specs.Nodes.{bit_at}
-use Rattle.nodes.specs.Names.{bits_at}
 use Rattle.nodes.proofs.GrowthLemmas.{stays, grows_none, builds_first, builds_more, builds_last}
-use Rattle.rows.specs.Rows as rows
 use Rattle.row_nodes.specs.Gates.{folded}
 use Rattle.row_nodes.proofs.RowLemmas.{each_more, each_past, folded_stays}
 use Rattle.row_nodes.proofs.pairs.each.Goals as goal

@@ -1,10 +1,10 @@
-use Rattle.std.proofs.Common.{◌≡◌, ◌<◌, ◌+◌, ◌++◌, false, length, take, drop, replicate, get_or, arith, sym, ap, ap₂, ◌∙◌, subst}
+use Rattle.std.proofs.Common.{◌<◌, ◌+◌, ◌++◌, false, length, take, drop, replicate, get_or, sym, ap, ap₂, ◌∙◌, subst}
 use Rattle.std.proofs.lemmas.List.{length-replicate}
 use Rattle.gates.specs.Bits.{constant}
 use Rattle.nodes.specs.Nodes.{bit_at}
 use Rattle.nodes.specs.Names.{bits_at, AreWithin}
 use Rattle.nodes.proofs.GrowthLemmas.{stays, still_within, all_stay, all_within, grows_none, grows_on, bits_at-more, length-bits_at, within_replicate}
-use Rattle.rows.specs.Rows.{added, fills, masked, moved_up, multiplied}
+use Rattle.rows.specs.Rows.{added, fills, masked, multiplied}
 use Rattle.row_nodes.proofs.RowLemmas.{bits_at-replicate}
 use Rattle.row_nodes.proofs.MoveLemmas.{up_bits, up_within, up_sized, multiplied-more, multiplied-none}
 use Rattle.row_nodes.proofs.products.product.Goals as goal

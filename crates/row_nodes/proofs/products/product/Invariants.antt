@@ -1,4 +1,4 @@
-use Rattle.std.proofs.Common.{◌≡◌, ◌<◌, length, drop}
+use Rattle.std.proofs.Common.{◌≡◌, length, drop}
 use Rattle.nodes.specs.Nodes.{Grows}
 use Rattle.nodes.specs.Names.{bits_at, AreWithin}
 use Rattle.rows.specs.Rows.{multiplied, product}

@@ -1,4 +1,4 @@
-use Rattle.std.proofs.Common.{false, sym, ap, ap₂, ◌∙◌}
+use Rattle.std.proofs.Common.{false, ap, ap₂, ◌∙◌}
 use Rattle.gates.specs.Bits.{constant}
 use Rattle.nodes.specs.Names.{bits_at}
 use Rattle.nodes.proofs.GrowthLemmas.{all_stay, grows_on, lent, made}

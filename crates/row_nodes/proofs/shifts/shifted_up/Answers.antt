@@ -1,4 +1,4 @@
-use Rattle.std.proofs.Common.{length, take, drop, ◌++◌, sym, ap, ap₂, ◌∙◌}
+use Rattle.std.proofs.Common.{length, take, ◌++◌, ap, ap₂, ◌∙◌}
 use Rattle.nodes.specs.Names.{bits_at}
 use Rattle.nodes.proofs.GrowthLemmas.{all_stay, grows_on, lent, made}
 use Rattle.rows.specs.Rows as rows

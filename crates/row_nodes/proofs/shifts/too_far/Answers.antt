@@ -1,4 +1,4 @@
-use Rattle.std.proofs.Common.{length, sym, ap, ap₂, ◌∙◌}
+use Rattle.std.proofs.Common.{sym, ap, ap₂, ◌∙◌}
 use Rattle.gates.specs.Bits.{fold_not}
 use Rattle.nodes.specs.Nodes.{bit_at}
 use Rattle.nodes.specs.Names.{bits_at}
