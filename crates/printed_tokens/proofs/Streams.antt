@@ -13,7 +13,7 @@ use Rattle.ir_tree.specs.Texts.{no_space_behind, no_space_before, same, spaced}
 use Rattle.ir_tree.specs.Printing.{Line, indent, text_of}
 use Rattle.ir_tree.specs.Pages.{gap_before}
 use Rattle.ir_tree.proofs.Lines.{behind, spaced_is}
-use Rattle.printed_tokens.specs.Lexed.{Spell, token_texts}
+use Rattle.printed_again.specs.Again.{Spell, token_texts}
 use Rattle.printed_tokens.proofs.Fronts.{StartsText, Stays, is_ended}
 
 -- what is left of a text behind a front has tokens with these texts

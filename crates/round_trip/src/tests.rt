@@ -5,7 +5,8 @@ use ir_tree::printing::print;
 use std::alloc::{AllocError, Global};
 use std::test::Fail;
 
-const SMALL: &str = "@s = private constant [3 x i8] c\"ab\\00\", align 1 define dso_local i32 @\"m\\61in\"(i8 %0) { %2 = add nsw i8 %0, -1 br label %3 3: ret i32 0 }";
+const SMALL: &str =
+    "@s = private constant [3 x i8] c\"ab\\00\", align 1 define dso_local i32 @\"m\\61in\"(i8 %0) { %2 = add nsw i8 %0, -1 br label %3 3: ret i32 0 }";
 
 const PRINTED: &str = "@s = global [3 x i8] c\"ab\\00\"
 define i32 @main(i8 %0) {
