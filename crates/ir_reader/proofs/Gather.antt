@@ -1,12 +1,13 @@
 -- A loop that gathers what a repetition reads, beside the repetition.
-use Rattle.std.proofs.Common.{◌≡◌, ℕ, suc, ◌≤◌, Bool, true, false, Option, Some, None, List, [], ◌∷◌, ◌++◌, length, refl, sym, ap, ◌∙◌, append_assoc}
+use Rattle.std.proofs.Common.{◌≡◌, ℕ, suc, ◌≤◌, Bool, true, false, ◌||◌, Option, Some, None, List, [], ◌∷◌, ◌++◌, length, refl, sym, ap, ◌∙◌, append_assoc}
 use Rattle.std.proofs.lemmas.List.{append-nil}
 use Rattle.ir_tree.specs.declared.instructions.Phi.{Phi}
 use Rattle.ir_tree.specs.declared.instructions.Instruction.{Instruction}
 use Rattle.ir_tree.specs.declared.module.IrTree.{IrTree}
-use Rattle.phrases.specs.Piece.{Piece, Class, starts}
+use Rattle.phrases.specs.Piece.{Piece, Class, matches, among, starts}
 use Rattle.phrases.specs.Phrase.{Phrase, Outcome, got, refused, and_then, many_from}
 use Rattle.phrases.specs.Exact.{Exact}
+use Rattle.phrases.proofs.Classes.{among-append}
 use Rattle.phrases.proofs.Laws.{got_is, refused_is, never, never_got}
 use Rattle.phrases.proofs.Loops.{one_more, no_more, fault_in}
 use Rattle.ir_grammar.specs.Instructions.{Line, a_phi, an_instruction, phis_of, instructions_of, present}
@@ -100,3 +101,26 @@ entities_later t (a_type x) es = tree_is (with_entities (with_entities t (a_type
 entities_later t (a_global_definition x) es = tree_is (with_entities (with_entities t (a_global_definition x ∷ [])) es) (with_entities t (a_global_definition x ∷ es)) (nothing_more t.types (types_of es)) (append_assoc t.globals (x ∷ []) (globals_of es)) (nothing_more t.declares (declares_of es)) (nothing_more t.functions (functions_of es))
 entities_later t (a_declare x) es = tree_is (with_entities (with_entities t (a_declare x ∷ [])) es) (with_entities t (a_declare x ∷ es)) (nothing_more t.types (types_of es)) (nothing_more t.globals (globals_of es)) (append_assoc t.declares (x ∷ []) (declares_of es)) (nothing_more t.functions (functions_of es))
 entities_later t (a_function x) es = tree_is (with_entities (with_entities t (a_function x ∷ [])) es) (with_entities t (a_function x ∷ es)) (nothing_more t.types (types_of es)) (nothing_more t.globals (globals_of es)) (nothing_more t.declares (declares_of es)) (append_assoc t.functions (x ∷ []) (functions_of es))
+
+-- ---- what may come next
+
+-- a class of its own
+pub alone : (c : Class) (p : Piece) → matches c p ≡ among (c ∷ []) p
+alone c p = or_none (matches c p)
+  where
+    or_none : (b : Bool) → b ≡ (b || false)
+    or_none true = refl
+    or_none false = refl
+
+-- the token is in none of the first classes
+pub past_these : (cs ds : List Class) (p : Piece) (found : Bool) → found ≡ among cs p → found ≡ false → among ds p ≡ among (cs ++ ds) p
+past_these cs ds p found e f = ap (λ b. b || among ds p) (sym f ∙ e) ∙ sym (among-append cs ds p)
+
+-- it is in one of them
+pub in_these : (cs ds : List Class) (p : Piece) (found : Bool) → found ≡ among cs p → found ≡ true → true ≡ among (cs ++ ds) p
+in_these cs ds p found e f = ap (λ b. b || among ds p) (sym f ∙ e) ∙ sym (among-append cs ds p)
+
+-- none of the first classes comes next
+pub past : (cs ds : List Class) (ts : List Piece) (found : Bool) → found ≡ starts cs ts → found ≡ false → starts ds ts ≡ starts (cs ++ ds) ts
+past cs ds [] found e f = refl
+past cs ds (p ∷ ps) found e f = past_these cs ds p found e f

@@ -1,8 +1,9 @@
 -- What a module consists of, as the code has it, beside the grammar's.
-use Rattle.std.specs.Prelude.{◌≡◌, List, ◌++◌, Result, Ok, Err}
+use Rattle.std.specs.Prelude.{◌≡◌, List, [], ◌∷◌, ◌++◌, Result, Ok, Err, codes}
 use Rattle.ir_tree.specs.declared.module.IrTree.{IrTree}
-use Rattle.phrases.specs.Phrase.{Outcome, got, and_then}
-use Rattle.ir_grammar.specs.Module.{Entity as GrammarEntity, nothing, a_type, a_global_definition, a_declare, a_function, types_of, globals_of, declares_of, functions_of}
+use Rattle.phrases.specs.Phrase.{Phrase, Outcome, got, and_then, either}
+use Rattle.ir_grammar.specs.Tokens.{a_local, a_global, word}
+use Rattle.ir_grammar.specs.Module.{Entity as GrammarEntity, nothing, a_type, a_global_definition, a_declare, a_function, types_of, globals_of, declares_of, functions_of, type_definition, global_definition, declare, define}
 use Rattle.ir_reader.specs.declared.stop.Stop.{Stop}
 use Rattle.ir_reader.specs.declared.source.Source.{Source}
 use Rattle.ir_reader.specs.declared.entities.Entity.{Entity}
@@ -28,3 +29,11 @@ with_entities t es = record { types = t.types ++ types_of es; globals = t.global
 
 abbrev pub collected_after : IrTree → Outcome (List GrammarEntity) → Outcome IrTree
 collected_after tree read = and_then read (λ es rest. got (with_entities tree es) rest)
+
+-- ---- parts of the choice of an entity
+
+abbrev pub function_entity : Phrase GrammarEntity
+function_entity = either (word (codes "declare") ∷ []) declare define
+
+abbrev pub named_entity : Phrase GrammarEntity
+named_entity = either (a_local ∷ []) type_definition (either (a_global ∷ []) global_definition function_entity)

@@ -1,8 +1,8 @@
 -- What an error says of tokens that are refused, whatever source they come from.
-use Rattle.std.specs.Prelude.{◌≡◌, ℕ, Bool, List, Some, None}
+use Rattle.std.specs.Prelude.{◌≡◌, ℕ, Bool, List, [], ◌∷◌, Some, None, codes}
 use Rattle.ir_lexer.specs.declared.token.TokenKind.TheVariants as kinds
 use Rattle.phrases.specs.Piece.{Piece, Class, such}
-use Rattle.ir_grammar.specs.Tokens.{number_of}
+use Rattle.ir_grammar.specs.Tokens.{number_of, mark}
 use Rattle.ir_grammar.specs.Unsupported.{is_wide_integer, is_hash_name}
 use Rattle.ir_grammar.specs.Laws.{IsRefused}
 use Rattle.ir_reader.specs.declared.text.SyntaxError.{SyntaxError}
@@ -12,6 +12,9 @@ use Rattle.ir_reader.specs.Reading.{place_of, unsupported_text}
 -- an integer type of no bits, or of more than 64
 abbrev pub wide_integer : Class
 wide_integer = record { kind = number_of kinds.Word; texts = such is_wide_integer }
+
+abbrev pub unsupported_marks : List Class
+unsupported_marks = mark (codes "...") ∷ mark (codes "<") ∷ mark (codes "*") ∷ []
 
 -- `#` with a name behind it
 abbrev pub hash_name : Class

@@ -7,7 +7,7 @@ ghost use Rattle.ir_grammar.specs.Module.{parameter as parameter_phrase, header 
 ghost use Rattle.ir_reader.specs.Source.{pieces};
 ghost use Rattle.ir_reader.specs.Gives.{Gives};
 ghost use Rattle.ir_reader.specs.Lines.{GivesAs};
-ghost use Rattle.ir_reader.specs.Entities.{entity_of, with_entities, MovesPast};
+ghost use Rattle.ir_reader.specs.Entities.{entity_of, with_entities, MovesPast, function_entity as function_phrase, named_entity as named_phrase};
 
 use crate::constants::typed_constant;
 use crate::ignored::{after, attributes, ignored, tail};
@@ -202,30 +202,51 @@ fn define<'a>(
     Ok((FunctionDefinition { header, blocks }, source))
 }
 
+/// A declared or a defined function.
+fn function_entity<'a>(alloc: Global, source: Source<'a>) -> Result<(Entity, Source<'a>), Stop<'a>>
+    ensures { GivesAs entity_of result (function_phrase.reads (pieces source.entry)) }
+{
+    if has_word(source, b"declare") {
+        let (found, source) = declare(alloc, source)?;
+        return Ok((Entity::Declare(found), source));
+    }
+    let (found, source) = define(alloc, source)?;
+    Ok((Entity::Function(found), source))
+}
+
+/// A type or a global, or a function.
+fn named_entity<'a>(alloc: Global, source: Source<'a>) -> Result<(Entity, Source<'a>), Stop<'a>>
+    ensures { GivesAs entity_of result (named_phrase.reads (pieces source.entry)) }
+{
+    if has_kind(source, TokenKind::Local) {
+        let (found, source) = type_definition(alloc, source)?;
+        return Ok((Entity::Type(found), source));
+    }
+    if has_kind(source, TokenKind::Global) {
+        let (found, source) = global_definition(alloc, source)?;
+        return Ok((Entity::Global(found), source));
+    }
+    function_entity(alloc, source)
+}
+
 /// The next of what a module consists of.
 #[tactic(auto, unfolding(ir_grammar::specs::Module::entity))]
 fn next_entity<'a>(alloc: Global, source: Source<'a>) -> Result<(Entity, Source<'a>), Stop<'a>>
     ensures { GivesAs entity_of result (entity_phrase.reads (pieces source.entry)) }
 {
     if has_word(source, b"source_filename") {
-        Ok((Entity::Nothing, source_name(source)?))
-    } else if has_word(source, b"target") {
-        Ok((Entity::Nothing, target_line(source)?))
-    } else if has_word(source, b"attributes") {
-        Ok((Entity::Nothing, attribute_group(source)?))
-    } else if has_kind(source, TokenKind::Local) {
-        let (found, source) = type_definition(alloc, source)?;
-        Ok((Entity::Type(found), source))
-    } else if has_kind(source, TokenKind::Global) {
-        let (found, source) = global_definition(alloc, source)?;
-        Ok((Entity::Global(found), source))
-    } else if has_word(source, b"declare") {
-        let (found, source) = declare(alloc, source)?;
-        Ok((Entity::Declare(found), source))
-    } else {
-        let (found, source) = define(alloc, source)?;
-        Ok((Entity::Function(found), source))
+        let source = source_name(source)?;
+        return Ok((Entity::Nothing, source));
     }
+    if has_word(source, b"target") {
+        let source = target_line(source)?;
+        return Ok((Entity::Nothing, source));
+    }
+    if has_word(source, b"attributes") {
+        let source = attribute_group(source)?;
+        return Ok((Entity::Nothing, source));
+    }
+    named_entity(alloc, source)
 }
 
 /// The words with which an entity begins.

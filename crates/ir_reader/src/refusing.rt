@@ -1,10 +1,10 @@
 //! Errors: the place of the first token that is refused, and whether what stands there is unsupported.
 
-ghost use Rattle.std.specs.Prelude.{◌≡◌, ◌<◌, ◌^◌, true, length};
+ghost use Rattle.std.specs.Prelude.{◌≡◌, ◌<◌, ◌^◌, length};
 ghost use Rattle.phrases.specs.Piece.{among, matches};
 ghost use Rattle.ir_grammar.specs.Unsupported.{unsupported_tokens};
 ghost use Rattle.ir_reader.specs.Source.{piece_of, pieces};
-ghost use Rattle.ir_reader.specs.Refusing.{wide_integer, hash_name, Tells};
+ghost use Rattle.ir_reader.specs.Refusing.{wide_integer, unsupported_marks, hash_name, Tells};
 
 use crate::source::{Lexeme, Source};
 use crate::text::SyntaxError;
@@ -115,17 +115,21 @@ impl<'a> Lexeme<'a> {
         }
     }
 
+    /// Whether it is one of the marks that are unsupported.
+    fn is_unsupported_mark(self) -> bool
+        ensures { result ≡ among unsupported_marks (piece_of self.entry) }
+    {
+        self.is_mark(b"...") || self.is_mark(b"<") || self.is_mark(b"*")
+    }
+
     /// Whether it is unsupported wherever it is refused.
     fn is_unsupported(self) -> bool
         ensures { result ≡ among unsupported_tokens (piece_of self.entry) }
     {
-        if self.is_wide_integer() {
-            return true;
-        }
-        if self.is_mark(b"...") || self.is_mark(b"<") || self.is_mark(b"*") {
-            return true;
-        }
-        self.is_hash_name() || self.is_word_of(&UNSUPPORTED_WORDS)
+        self.is_wide_integer()
+            || self.is_unsupported_mark()
+            || self.is_hash_name()
+            || self.is_word_of(&UNSUPPORTED_WORDS)
     }
 }
 
