@@ -259,10 +259,16 @@ const FUNCTION_WORDS: [&[u8]; 2] = [b"declare", b"define"];
 fn has_entity(source: Source<'_>) -> bool
     ensures { result ≡ starts entity_starts (pieces source.entry) }
 {
-    has_word_of(source, &ENTITY_WORDS)
-        || has_kind(source, TokenKind::Local)
-        || has_kind(source, TokenKind::Global)
-        || has_word_of(source, &FUNCTION_WORDS)
+    if has_word_of(source, &ENTITY_WORDS) {
+        return true;
+    }
+    if has_kind(source, TokenKind::Local) {
+        return true;
+    }
+    if has_kind(source, TokenKind::Global) {
+        return true;
+    }
+    has_word_of(source, &FUNCTION_WORDS)
 }
 
 /// Takes one more of what the module consists of.

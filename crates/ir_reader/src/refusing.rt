@@ -126,10 +126,16 @@ impl<'a> Lexeme<'a> {
     fn is_unsupported(self) -> bool
         ensures { result ≡ among unsupported_tokens (piece_of self.entry) }
     {
-        self.is_wide_integer()
-            || self.is_unsupported_mark()
-            || self.is_hash_name()
-            || self.is_word_of(&UNSUPPORTED_WORDS)
+        if self.is_wide_integer() {
+            return true;
+        }
+        if self.is_unsupported_mark() {
+            return true;
+        }
+        if self.is_hash_name() {
+            return true;
+        }
+        self.is_word_of(&UNSUPPORTED_WORDS)
     }
 }
 

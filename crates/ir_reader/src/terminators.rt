@@ -221,9 +221,13 @@ const BLOCK_WORDS: [&[u8]; 8] = [
 pub fn has_block(source: Source<'_>) -> bool
     ensures { result ≡ starts block_starts (pieces source.entry) }
 {
-    has_kind(source, TokenKind::Label)
-        || has_kind(source, TokenKind::Local)
-        || has_word_of(source, &BLOCK_WORDS)
+    if has_kind(source, TokenKind::Label) {
+        return true;
+    }
+    if has_kind(source, TokenKind::Local) {
+        return true;
+    }
+    has_word_of(source, &BLOCK_WORDS)
 }
 
 /// Any number of blocks.

@@ -5,10 +5,10 @@ use Rattle.ir_reader.specs.Source.{pieces}
 use Rattle.ir_reader.proofs.Gather.{past}
 use Rattle.ir_reader.proofs.terminators.has_block.Goals as goal
 
-pub returns-else-has_kind-2 : goal.returns-else-has_kind-2
-returns-else-has_kind-2 c =
+pub returns : goal.returns
+returns c =
     let ts = pieces c.args.source in
     let last = words (codes "store" ∷ codes "tail" ∷ codes "notail" ∷ codes "call" ∷ codes "ret" ∷ codes "br" ∷ codes "switch" ∷ codes "unreachable" ∷ []) in
     c.has_word_of.ensures
-    ∙ past (a_local ∷ []) last ts _ c.has_kind-else-has_kind.ensures c.if-has_kind-2.false
+    ∙ past (a_local ∷ []) last ts _ c.has_kind-2.ensures c.if-has_kind-2.false
     ∙ past (a_label ∷ []) (a_local ∷ last) ts _ c.has_kind.ensures c.if-has_kind.false

@@ -21,8 +21,8 @@ returns-then-is_hash_name c =
     ∙ past_these unsupported_marks (hash_name ∷ last) p _ c.is_unsupported_mark.ensures c.if-is_unsupported_mark.false
     ∙ past_these (wide_integer ∷ []) (unsupported_marks ++ (hash_name ∷ last)) p _ (c.is_wide_integer.ensures ∙ alone wide_integer p) c.if-is_wide_integer.false
 
-pub returns-else-is_hash_name : goal.returns-else-is_hash_name
-returns-else-is_hash_name c =
+pub returns : goal.returns
+returns c =
     let p = piece_of c.args.self in
     let last = words unsupported_words in
     c.is_word_of.ensures
