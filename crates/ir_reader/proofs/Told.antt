@@ -1,5 +1,5 @@
 -- What the answer says of the text decides what it is where the text is read or refused.
-use Rattle.std.proofs.Common.{◌≡◌, ℕ, ◌≤◌, Bool, false, List, [], ◌∷◌, length, Option, Some, None, Result, Ok, Err, IfOk, IfErr, refl, sym, ap, subst, ◌∙◌, arith}
+use Rattle.std.proofs.Common.{◌≡◌, ℕ, ◌≤◌, Bool, false, List, [], ◌∷◌, length, Option, Some, None, Result, Ok, Err, IfOk, IfErr, sym, ap, subst, ◌∙◌, arith}
 use Rattle.ir_lexer.specs.declared.token.Token.{Token}
 use Rattle.ir_lexer.proofs.Lexed.{has_one_list}
 use Rattle.ir_tree.specs.declared.module.IrTree.{IrTree}

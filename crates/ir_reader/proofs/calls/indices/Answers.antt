@@ -19,4 +19,4 @@ pub commas-preserved : goal.commas-preserved
 commas-preserved c =
     ap (λ b. gathered with_present c.keep.new.found ((many_from (comma ∷ []) (item_or_attached (integer_type ∷ []) index) attachments_begun b).reads (pieces c.in_ok-next.after))) c.has_begun-begun.ensures
     ∙ turn (comma ∷ []) [] (item_or_attached (integer_type ∷ []) index) attachments_begun index_or_attached_exact with_present (λ x. append-nil x) present_later c.commas.begun c.commas.found c.keep.new.found
-      (pieces c.commas.rest) (pieces c.in_ok-next.after) c.in_ok-next.next _ (sym c.has_mark.ensures ∙ c.commas-test.true) c.in_ok-next.ensures c.in_ok-keep.ensures c.commas.invariant
+    (pieces c.commas.rest) (pieces c.in_ok-next.after) c.in_ok-next.next _ (sym c.has_mark.ensures ∙ c.commas-test.true) c.in_ok-next.ensures c.in_ok-keep.ensures c.commas.invariant

@@ -1,4 +1,4 @@
-use Rattle.std.proofs.Common.{◌≡◌, ◌∷◌, [], length}
+use Rattle.std.proofs.Common.{◌≡◌, length}
 use Rattle.phrases.specs.Phrase.{many}
 use Rattle.ir_grammar.specs.Module.{entity, entity_starts, module_text}
 use Rattle.ir_reader.specs.Entities.{collected_after}

@@ -1,5 +1,4 @@
-use Rattle.std.proofs.Common.{[], ◌∷◌, ◌∙◌, sym}
-use Rattle.ir_grammar.specs.Module.{parameter}
+use Rattle.std.proofs.Common.{◌∙◌, sym}
 use Rattle.ir_reader.specs.Source.{pieces}
 use Rattle.ir_reader.proofs.Turns.{fewer}
 use Rattle.ir_reader.proofs.Parameters.{parameter_turn, parameter_shrinks}

@@ -1,4 +1,4 @@
-use Rattle.std.proofs.Common.{◌≡◌, ◌∷◌, [], length}
+use Rattle.std.proofs.Common.{◌≡◌, length}
 use Rattle.ir_grammar.specs.Types.{behind_commas}
 use Rattle.ir_grammar.specs.Module.{parameter}
 use Rattle.phrases.specs.Reading.{with_front}

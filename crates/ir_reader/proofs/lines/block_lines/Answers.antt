@@ -17,4 +17,4 @@ pub lines-preserved : goal.lines-preserved
 lines-preserved c =
     ap (λ b. parted_after c.add.new.self ((many_from line_starts line phis_after b).reads (pieces c.in_ok-next.after))) c.phis_after-phis.ensures
     ∙ turn line_starts call_more line phis_after line_exact with_lines lines_none lines_later c.lines.phis c.lines.found c.add.new.self (pieces c.lines.rest) (pieces c.in_ok-next.after) (line_of c.in_ok-next.next) _
-      (sym c.has_line.ensures ∙ c.lines-test.true) c.in_ok-next.ensures c.in_ok-add.ensures c.lines.invariant
+    (sym c.has_line.ensures ∙ c.lines-test.true) c.in_ok-next.ensures c.in_ok-add.ensures c.lines.invariant

@@ -1,4 +1,4 @@
-use Rattle.std.proofs.Common.{◌≡◌, ◌∷◌, [], length}
+use Rattle.std.proofs.Common.{◌≡◌, length}
 use Rattle.phrases.specs.Phrase.{many_from}
 use Rattle.ir_grammar.specs.Instructions.{line, line_starts, phis_after, lines}
 use Rattle.ir_reader.specs.Lines.{parted, parted_after}

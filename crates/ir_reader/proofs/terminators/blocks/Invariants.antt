@@ -1,4 +1,4 @@
-use Rattle.std.proofs.Common.{◌≡◌, ◌∷◌, [], length}
+use Rattle.std.proofs.Common.{◌≡◌, length}
 use Rattle.phrases.specs.Phrase.{many}
 use Rattle.ir_grammar.specs.Instructions.{block, block_starts}
 use Rattle.phrases.specs.Reading.{with_front}
