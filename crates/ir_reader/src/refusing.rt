@@ -1,8 +1,7 @@
 //! Errors: the place of the first token that is refused, and whether what stands there is unsupported.
 
-ghost use Rattle.std.specs.Prelude.{◌≡◌, ◌<◌, ◌^◌, length, map};
+ghost use Rattle.std.specs.Prelude.{◌≡◌, ◌<◌, ◌^◌, length};
 ghost use Rattle.phrases.specs.Piece.{among, matches};
-ghost use Rattle.ir_grammar.specs.Tokens.{words as words_of};
 ghost use Rattle.ir_grammar.specs.Unsupported.{unsupported_tokens};
 ghost use Rattle.ir_reader.specs.Source.{piece_of, pieces};
 ghost use Rattle.ir_reader.specs.Refusing.{wide_integer, unsupported_marks, hash_name, Tells};
@@ -96,18 +95,6 @@ const UNSUPPORTED_WORDS: [&[u8]; 78] = [
 ];
 
 impl<'a> Lexeme<'a> {
-    /// Whether it is one of the words.
-    fn is_word_of(self, words: &[&[u8]]) -> bool
-        ensures { result ≡ among (words_of (map (λ w. w.now) words.now)) (piece_of self.entry) }
-    {
-        for text in words {
-            if self.is_word(text) {
-                return true;
-            }
-        }
-        false
-    }
-
     /// Whether it is the name of an integer type of no bits or more than 64.
     fn is_wide_integer(self) -> bool
         ensures { result ≡ matches wide_integer (piece_of self.entry) }

@@ -3,7 +3,7 @@
 ghost use Rattle.std.specs.Prelude.{◌≡◌, ◌==◌, ◌∷◌, [], map};
 ghost use Rattle.phrases.specs.Piece.{same_text, any, matches, among, starts};
 ghost use Rattle.phrases.specs.Phrase.{got, one, skip as skip_phrase, place, skip_many};
-ghost use Rattle.ir_grammar.specs.Tokens.{number_of as number, word, mark, words as words_of, meaning as meaning_of, all_but, are_digits as all_digits, names_integer as is_integer_name, is_odd as is_odd_name, integer_type, odd_integer_type};
+ghost use Rattle.ir_grammar.specs.Tokens.{number_of as number, word, mark, words as words_of, heads, meaning as meaning_of, all_but, are_digits as all_digits, is_plain_number as is_plain, names_integer as is_integer_name, is_odd as is_odd_name, integer_type, odd_integer_type};
 ghost use Rattle.ir_reader.specs.Source.{piece_of, pieces};
 ghost use Rattle.ir_reader.specs.Gives.{Gives, Moves};
 
@@ -63,6 +63,18 @@ impl<'a> Lexeme<'a> {
         ensures { result ≡ matches (mark text.now) (piece_of self.entry) }
     {
         is_kind(self.kind, TokenKind::Punct) && is_text(self.text, text)
+    }
+
+    /// Whether it is one of the words.
+    pub fn is_word_of(self, words: &[&[u8]]) -> bool
+        ensures { result ≡ among (words_of (map (λ w. w.now) words.now)) (piece_of self.entry) }
+    {
+        for text in words {
+            if self.is_word(text) {
+                return true;
+            }
+        }
+        false
     }
 
     /// Whether it is no Bad token and not the mark of this text.
@@ -171,12 +183,10 @@ pub fn place_of_mark<'a>(source: Source<'a>, text: &[u8]) -> Result<(u32, Source
 pub fn has_word_of(source: Source<'_>, words: &[&[u8]]) -> bool
     ensures { result ≡ starts (words_of (map (λ w. w.now) words.now)) (pieces source.entry) }
 {
-    for text in words {
-        if has_word(source, text) {
-            return true;
-        }
+    match source.next() {
+        None => false,
+        Some((found, _)) => found.is_word_of(words),
     }
-    false
 }
 
 /// Goes past one of the words.
@@ -261,17 +271,27 @@ pub fn meaning<'a, T: Copy>(
 
 /// Whether a word of the table comes next.
 pub fn has_head<T: Copy>(source: Source<'_>, rows: &[(&[u8], T)]) -> bool
-    ensures { result ≡ starts (Rattle.ir_grammar.specs.Tokens.heads (map (λ r. (r.0.now, r.1)) rows.now)) (pieces source.entry) }
+    ensures { result ≡ starts (heads (map (λ r. (r.0.now, r.1)) rows.now)) (pieces source.entry) }
 {
-    for row in rows {
-        if has_word(source, row.0) {
-            return true;
-        }
+    match source.next() {
+        None => false,
+        Some((found, _)) => found.is_head(rows),
     }
-    false
 }
 
 impl<'a> Lexeme<'a> {
+    /// Whether it is a word of the table.
+    fn is_head<T: Copy>(self, rows: &[(&[u8], T)]) -> bool
+        ensures { result ≡ among (heads (map (λ r. (r.0.now, r.1)) rows.now)) (piece_of self.entry) }
+    {
+        for row in rows {
+            if self.is_word(row.0) {
+                return true;
+            }
+        }
+        false
+    }
+
     /// What it means by a table.
     pub fn meaning<T: Copy>(self, rows: &[(&[u8], T)]) -> Option<T>
         ensures { result ≡ meaning_of (map (λ r. (r.0.now, r.1)) rows.now) (piece_of self.entry) }
@@ -301,7 +321,7 @@ pub fn are_digits(text: &[u8]) -> bool
 
 /// Whether the text is digits, and begins with a 0 only where that is all.
 fn is_plain_number(text: &[u8]) -> bool
-    ensures { result ≡ Rattle.ir_grammar.specs.Tokens.is_plain_number text.now }
+    ensures { result ≡ is_plain text.now }
 {
     match text {
         [] => false,
