@@ -1,4 +1,4 @@
-ghost use Rattle.std.specs.Prelude.{◌≡◌, ◌<◌, ◌≤◌, All, IfOk};
+ghost use Rattle.std.specs.Prelude.{◌≡◌, ◌<◌, All, IfOk, OnOk};
 ghost use Rattle.cnf.specs.Cnf.{IsBelow};
 ghost use Rattle.terms.specs.Tree.{width_of};
 ghost use Rattle.term_bits.specs.Conditions.{IsConjunct};
@@ -6,6 +6,7 @@ ghost use Rattle.term_bits.specs.Conditions.{IsConjunct};
 use bit_gates::{Blasted, clauses_of};
 use bitnum::{BinOp, Num};
 use places::{Home, Opened};
+use plain_list::Sequence;
 use search::{Answer, search};
 use std::alloc::{AllocError, Global};
 use std::marker::Brand;
@@ -23,38 +24,72 @@ fn equals<H: Home>(terms: &Terms<H>, t: &Term<H>, number: u64) -> Result<Term<H>
     Ok(equal)
 }
 
-/// The clauses of the condition that the first byte is 65.
+/// Adds a conjunct.
+fn push_conjunct<H: Home>(all: &mut Sequence<Term<H>>, t: Term<H>) -> Result<(), AllocError>
+    requires all { All IsConjunct all.old }
+    requires conjunct { IsConjunct t }
+    ensures { OnOk result (All IsConjunct all.new) }
+{
+    all.push(t)?;
+    Ok(())
+}
+
+/// That the first byte is 65.
+fn letter<H: Home>(terms: &Terms<H>) -> Result<Sequence<Term<H>>, AllocError>
+    ensures { IfOk result (λ all. All IsConjunct all) }
+{
+    let mut all = Sequence::new(terms.alloc());
+    let first = equals(terms, &input_byte(terms, 0)?, 65)?;
+    push_conjunct(&mut all, first)?;
+    Ok(all)
+}
+
+/// That the first byte is 200, the second 3, and that an operation on them gives a number.
+fn operation<H: Home>(
+    terms: &Terms<H>,
+    op: BinOp,
+    number: u64,
+) -> Result<Sequence<Term<H>>, AllocError>
+    requires { number < 256 }
+    ensures { IfOk result (λ all. All IsConjunct all) }
+{
+    let x = input_byte(terms, 0)?;
+    let y = input_byte(terms, 1)?;
+    let made = bin(terms, op, &x, &y)?;
+    let mut all = Sequence::new(terms.alloc());
+    let first = equals(terms, &x, 200)?;
+    push_conjunct(&mut all, first)?;
+    let second = equals(terms, &y, 3)?;
+    push_conjunct(&mut all, second)?;
+    let third = equals(terms, &made, number)?;
+    push_conjunct(&mut all, third)?;
+    Ok(all)
+}
+
 fn clauses_of_letter<H: Home>(opened: Opened<Shape>, alloc: Global) -> Result<Blasted, AllocError>
     requires { opened.seen.book ≡ H.book }
     ensures variables { IfOk result (λ r. IsBelow r.formula.vars r.formula.clauses) }
     ensures order { IfOk result (λ r. All (λ v. v < r.formula.vars) r.order.items) }
 {
     let terms = Terms::<H>::new(alloc, opened.named::<H>());
-    let letter = equals(&terms, &input_byte(&terms, 0)?, 65)?;
-    clauses_of(alloc, &[letter])
+    let condition = letter(&terms)?;
+    clauses_of(alloc, condition.as_slice())
 }
 
-/// The clauses of the condition that the first byte is 200, the second 3, and that an operation on
-/// them gives a number.
 fn clauses_of_operation<H: Home>(
     opened: Opened<Shape>,
     alloc: Global,
     op: BinOp,
-    gives: u64,
+    number: u64,
 ) -> Result<Blasted, AllocError>
     requires book { opened.seen.book ≡ H.book }
-    requires fits { gives < 256 }
+    requires fits { number < 256 }
     ensures variables { IfOk result (λ r. IsBelow r.formula.vars r.formula.clauses) }
     ensures order { IfOk result (λ r. All (λ v. v < r.formula.vars) r.order.items) }
 {
     let terms = Terms::<H>::new(alloc, opened.named::<H>());
-    let x = input_byte(&terms, 0)?;
-    let y = input_byte(&terms, 1)?;
-    let made = bin(&terms, op, &x, &y)?;
-    let first = equals(&terms, &x, 200)?;
-    let second = equals(&terms, &y, 3)?;
-    let third = equals(&terms, &made, gives)?;
-    clauses_of(alloc, &[first, second, third])
+    let condition = operation(&terms, op, number)?;
+    clauses_of(alloc, condition.as_slice())
 }
 
 /// Whether the operation on 200 and 3 gives the number, by the search.

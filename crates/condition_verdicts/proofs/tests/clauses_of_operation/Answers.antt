@@ -1,8 +1,0 @@
-use Rattle.std.proofs.Common.{[], ◌∷◌}
-use Rattle.std.proofs.lemmas.List.Elements.{All-from_recursion}
-use Rattle.term_bits.specs.Conditions.{IsConjunct}
-use Rattle.condition_verdicts.proofs.tests.clauses_of_operation.Goals as goal
-
-pub clauses_of-requires : goal.clauses_of-requires
-clauses_of-requires g c =
-    All-from_recursion IsConjunct (c.in_ok-first.first ∷ c.in_ok-second.second ∷ c.in_ok-third.third ∷ []) (c.in_ok-first.ensures, (c.in_ok-second.ensures, (c.in_ok-third.ensures, tt)))
