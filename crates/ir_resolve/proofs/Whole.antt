@@ -1,12 +1,14 @@
 -- A module's program names nothing but its own.
-use Rattle.std.proofs.Common.{◌≡◌, ℕ, suc, ◌+◌, ◌<◌, ◌≤◌, ◌^◌, Bool, true, false, not, ◌&&◌, ◌==◌, List, [], ◌∷◌, ◌++◌, length, Option, Some, None, nat_lt, nat_le, refl, sym, ◌∙◌, ap, subst, arith, All, if◌then◌else◌, append_assoc, length-append}
+use Rattle.std.proofs.Common.{◌≡◌, ℕ, suc, ◌+◌, ◌<◌, ◌≤◌, ◌^◌, Bool, true, false, not, ◌&&◌, ◌||◌, ◌==◌, List, [], ◌∷◌, ◌++◌, length, Option, Some, None, nat_lt, nat_le, refl, sym, ◌∙◌, ap, subst, arith, All, if◌then◌else◌, append_assoc, length-append, unwrap_or}
+use Rattle.std.specs.List.{list_any, list_all}
 use Rattle.std.proofs.lemmas.Bool.{false≢true, leb-true}
-use Rattle.std.proofs.lemmas.List.Elements.{All-cons, All-head}
+use Rattle.std.proofs.lemmas.List.Elements.{All-cons, All-head, All-tail}
 use Rattle.bitnum.specs.declared.BinOp.{BinOp}
 use Rattle.bitnum.specs.declared.Pred.{Pred}
 use Rattle.flat_ir.specs.declared.names.NodeId.{NodeId}
 use Rattle.flat_ir.specs.declared.names.RegId.{RegId}
 use Rattle.flat_ir.specs.declared.nodes.Node.{Node}
+use Rattle.flat_ir.specs.declared.nodes.Node.TheVariants as node
 use Rattle.flat_ir.specs.declared.nodes.Operand.{Operand}
 use Rattle.flat_ir.specs.declared.nodes.Operand.TheVariants as operand
 use Rattle.flat_ir.specs.declared.nodes.RegType.{RegType}
@@ -14,6 +16,7 @@ use Rattle.flat_ir.specs.declared.nodes.RegType.TheVariants as type
 use Rattle.flat_ir.specs.declared.program.ProgramData.{ProgramData}
 use Rattle.flat_ir.specs.Whole.{IsWhole, IsFuncOf, IsNodeOf, OperandIn, IsWidth}
 use Rattle.ir_tree.specs.declared.instructions.Instruction.{Instruction}
+use Rattle.ir_tree.specs.declared.instructions.CastOp.{CastOp as TreeCast}
 use Rattle.ir_tree.specs.declared.instructions.Operation.{Operation}
 use Rattle.ir_tree.specs.declared.instructions.Operation.TheVariants as operations
 use Rattle.ir_tree.specs.declared.instructions.Block.{Block}
@@ -26,12 +29,12 @@ use Rattle.ir_tree.specs.Texts.{same}
 use Rattle.ir_resolve.specs.declared.names.Local.{Local}
 use Rattle.ir_resolve.specs.declared.names.Local.TheVariants.{Register, Label}
 use Rattle.ir_resolve.specs.declared.names.Named.{Named}
-use Rattle.ir_resolve.specs.Names.{result_width, named_results, named_in, found}
+use Rattle.ir_resolve.specs.Names.{width_of, result_width, named_results, named_in, found}
 use Rattle.ir_resolve.specs.Nodes as spec
 use Rattle.flat_ir.specs.declared.program.Func.{Func}
 use Rattle.ir_tree.specs.declared.module.FunctionDefinition.{FunctionDefinition}
 use Rattle.ir_tree.specs.declared.module.IrTree.{IrTree}
-use Rattle.ir_resolve.specs.Programs.{type_in, name_in, types_of, register_names, main_with, program_with, is_main, are_own, with_nodes, program_of, of_functions, resolved}
+use Rattle.ir_resolve.specs.Programs.{type_in, name_in, types_of, register_names, is_call, getchar, main_with, program_with, declares_getchar, is_main, are_own, with_nodes, program_of, of_functions, resolved}
 use Rattle.ir_resolve.specs.Small.{IsFew, IsSmall}
 
 -- ---- what a name stands for lies below these numbers of registers and nodes
@@ -159,14 +162,15 @@ target-in regs nodes (Some (Label n)) h = target-if nodes (n.0 == 0) n h
 
 -- ---- nodes
 
+-- of a program of so many functions, two at least where it is a call
 abbrev pub NodeIn : ℕ → ℕ → Node → Type 0
-NodeIn regs nodes x = IsNodeOf 0 1 regs nodes x
+NodeIn regs nodes x = (funcs : ℕ) → (is_call x ≡ true → 1 < funcs) → IsNodeOf 0 funcs regs nodes x
 
 bin-in : (regs nodes : ℕ) (op : BinOp) (r : RegId) (next : NodeId) (a b : Option Operand) → r.0 < regs → next.0 < nodes → OnSome (OperandIn 0 regs) a → OnSome (OperandIn 0 regs) b
     → OnSome (NodeIn regs nodes) (spec.bin_of op r next a b)
 bin-in regs nodes op r next None b h k x y = tt
 bin-in regs nodes op r next (Some a) None h k x y = tt
-bin-in regs nodes op r next (Some a) (Some b) h k x y = record {
+bin-in regs nodes op r next (Some a) (Some b) h k x y = λ funcs more. record {
   operands = all-two (OperandIn 0 regs) a b x y;
   results = all-one (λ (q : RegId). q.0 < regs) r h;
   successors = all-one (λ (s : NodeId). s.0 < nodes) next k;
@@ -177,7 +181,7 @@ cmp-in : (regs nodes : ℕ) (pred : Pred) (r : RegId) (next : NodeId) (a b : Opt
     → OnSome (NodeIn regs nodes) (spec.cmp_of pred r next a b)
 cmp-in regs nodes pred r next None b h k x y = tt
 cmp-in regs nodes pred r next (Some a) None h k x y = tt
-cmp-in regs nodes pred r next (Some a) (Some b) h k x y = record {
+cmp-in regs nodes pred r next (Some a) (Some b) h k x y = λ funcs more. record {
   operands = all-two (OperandIn 0 regs) a b x y;
   results = all-one (λ (q : RegId). q.0 < regs) r h;
   successors = all-one (λ (s : NodeId). s.0 < nodes) next k;
@@ -190,17 +194,58 @@ compare-in regs nodes names pred r next None a b below h k = tt
 compare-in regs nodes names pred r next (Some width) a b below h k =
     cmp-in regs nodes pred r next (spec.operand_of names width a.form) (spec.operand_of names width b.form) h k (operand-in regs nodes names width a.form below) (operand-in regs nodes names width b.form below)
 
+cast-in : (regs nodes : ℕ) (op : TreeCast) (r : RegId) (next : NodeId) (a : Option Operand) → r.0 < regs → next.0 < nodes → OnSome (OperandIn 0 regs) a → OnSome (NodeIn regs nodes) (spec.cast_of op r next a)
+cast-in regs nodes op r next None h k x = tt
+cast-in regs nodes op r next (Some a) h k x = λ funcs more. record {
+  operands = all-one (OperandIn 0 regs) a x;
+  results = all-one (λ (q : RegId). q.0 < regs) r h;
+  successors = all-one (λ (s : NodeId). s.0 < nodes) next k;
+  names = tt;
+}
+
+choice-in : (regs nodes : ℕ) (r : RegId) (next : NodeId) (c a b : Option Operand) → r.0 < regs → next.0 < nodes → OnSome (OperandIn 0 regs) c → OnSome (OperandIn 0 regs) a → OnSome (OperandIn 0 regs) b
+    → OnSome (NodeIn regs nodes) (spec.choice_of r next c a b)
+choice-in regs nodes r next None a b h k x y z = tt
+choice-in regs nodes r next (Some c) None b h k x y z = tt
+choice-in regs nodes r next (Some c) (Some a) None h k x y z = tt
+choice-in regs nodes r next (Some c) (Some a) (Some b) h k x y z = λ funcs more. record {
+  operands = All-cons (OperandIn 0 regs) c (a ∷ b ∷ []) x (all-two (OperandIn 0 regs) a b y z);
+  results = all-one (λ (q : RegId). q.0 < regs) r h;
+  successors = all-one (λ (s : NodeId). s.0 < nodes) next k;
+  names = tt;
+}
+
+select-in : (regs nodes : ℕ) (names : List Named) (r : RegId) (next : NodeId) (c : Value) (width : Option ℕ) (a : Value) (other : Option ℕ) (b : Value) → AreBelow regs nodes names → r.0 < regs → next.0 < nodes
+    → OnSome (NodeIn regs nodes) (spec.select_of names r next c width a other b)
+select-in regs nodes names r next c None a other b below h k = tt
+select-in regs nodes names r next c (Some width) a None b below h k = tt
+select-in regs nodes names r next c (Some width) a (Some other) b below h k =
+    on-if (NodeIn regs nodes) (spec.is_width width && (width == other)) (spec.choice_of r next (spec.operand_of names 1 c.form) (spec.operand_of names width a.form) (spec.operand_of names width b.form))
+    (choice-in regs nodes r next (spec.operand_of names 1 c.form) (spec.operand_of names width a.form) (spec.operand_of names width b.form) h k
+    (operand-in regs nodes names 1 c.form below) (operand-in regs nodes names width a.form below) (operand-in regs nodes names width b.form below))
+
 operation-in : (regs nodes : ℕ) (names : List Named) (r : RegId) (next : NodeId) (o : Operation) → AreBelow regs nodes names → r.0 < regs → next.0 < nodes
     → OnSome (NodeIn regs nodes) (spec.operation_of names r next o)
 operation-in regs nodes names r next (operations.Binary op width a b) below h k =
-    on-if (NodeIn regs nodes) (spec.is_built op && spec.is_width width) (spec.bin_of op r next (spec.operand_of names width a.form) (spec.operand_of names width b.form))
+    on-if (NodeIn regs nodes) (spec.is_width width) (spec.bin_of op r next (spec.operand_of names width a.form) (spec.operand_of names width b.form))
     (bin-in regs nodes op r next (spec.operand_of names width a.form) (spec.operand_of names width b.form) h k (operand-in regs nodes names width a.form below) (operand-in regs nodes names width b.form below))
-operation-in regs nodes names r next (operations.Compare pred kind a b) below h k = compare-in regs nodes names pred r next (spec.width_of kind) a b below h k
+operation-in regs nodes names r next (operations.Compare pred kind a b) below h k = compare-in regs nodes names pred r next (width_of kind) a b below h k
+operation-in regs nodes names r next (operations.Cast op from value to) below h k =
+    on-if (NodeIn regs nodes) (spec.is_width from && spec.is_width to && spec.converts op from to) (spec.cast_of op r next (spec.operand_of names from value.form))
+    (cast-in regs nodes op r next (spec.operand_of names from value.form) h k (operand-in regs nodes names from value.form below))
+operation-in regs nodes names r next (operations.Select c a b) below h k = select-in regs nodes names r next c (width_of a.kind) a.value (width_of b.kind) b.value below h k
+operation-in regs nodes names r next (operations.Call result callee arguments) below h k =
+    on-if (NodeIn regs nodes) (spec.is_getchar callee.text (length arguments) result) (Some (spec.getchar_call r next)) (λ funcs more. record {
+      operands = all-none _;
+      results = all-one (λ (q : RegId). q.0 < regs) r h;
+      successors = all-one (λ (s : NodeId). s.0 < nodes) next k;
+      names = more refl;
+    })
 operation-in regs nodes names r next _ below h k = tt
 
 return-in : (regs nodes : ℕ) (a : Option Operand) → OnSome (OperandIn 0 regs) a → OnSome (NodeIn regs nodes) (spec.return_of a)
 return-in regs nodes None h = tt
-return-in regs nodes (Some a) h = record { operands = all-one (OperandIn 0 regs) a h; results = all-none _; successors = all-none _; names = tt }
+return-in regs nodes (Some a) h = λ funcs more. record { operands = all-one (OperandIn 0 regs) a h; results = all-none _; successors = all-none _; names = tt }
 
 returned-in : (regs nodes : ℕ) (names : List Named) (width : Option ℕ) (v : Value) → AreBelow regs nodes names → OnSome (NodeIn regs nodes) (spec.returned names width v)
 returned-in regs nodes names None v below = tt
@@ -209,13 +254,13 @@ returned-in regs nodes names (Some width) v below =
 
 jump-in : (regs nodes : ℕ) (to : Option NodeId) → OnSome (NodeBelow nodes) to → OnSome (NodeIn regs nodes) (spec.jump_of to)
 jump-in regs nodes None h = tt
-jump-in regs nodes (Some to) h = record { operands = all-none _; results = all-none _; successors = all-one (λ (s : NodeId). s.0 < nodes) to h; names = tt }
+jump-in regs nodes (Some to) h = λ funcs more. record { operands = all-none _; results = all-none _; successors = all-one (λ (s : NodeId). s.0 < nodes) to h; names = tt }
 
 branch-in : (regs nodes : ℕ) (c : Option Operand) (a b : Option NodeId) → OnSome (OperandIn 0 regs) c → OnSome (NodeBelow nodes) a → OnSome (NodeBelow nodes) b → OnSome (NodeIn regs nodes) (spec.branch_of c a b)
 branch-in regs nodes None a b h x y = tt
 branch-in regs nodes (Some c) None b h x y = tt
 branch-in regs nodes (Some c) (Some a) None h x y = tt
-branch-in regs nodes (Some c) (Some a) (Some b) h x y = record {
+branch-in regs nodes (Some c) (Some a) (Some b) h x y = λ funcs more. record {
   operands = all-one (OperandIn 0 regs) c h;
   results = all-none _;
   successors = all-two (λ (s : NodeId). s.0 < nodes) a b x y;
@@ -223,11 +268,12 @@ branch-in regs nodes (Some c) (Some a) (Some b) h x y = record {
 }
 
 terminator-in : (regs nodes : ℕ) (names : List Named) (form : TerminatorForm) → AreBelow regs nodes names → OnSome (NodeIn regs nodes) (spec.terminator_of names form)
-terminator-in regs nodes names (terminators.Return (Some t)) below = returned-in regs nodes names (spec.width_of t.kind) t.value below
+terminator-in regs nodes names (terminators.Return (Some t)) below = returned-in regs nodes names (width_of t.kind) t.value below
 terminator-in regs nodes names (terminators.Jump to) below = jump-in regs nodes (spec.block_of (found to.text names)) (target-in regs nodes (found to.text names) (found-below regs nodes to.text names below))
 terminator-in regs nodes names (terminators.Branch condition first second) below =
     branch-in regs nodes (spec.operand_of names 1 condition.form) (spec.block_of (found first.text names)) (spec.block_of (found second.text names)) (operand-in regs nodes names 1 condition.form below)
     (target-in regs nodes (found first.text names) (found-below regs nodes first.text names below)) (target-in regs nodes (found second.text names) (found-below regs nodes second.text names below))
+terminator-in regs nodes names terminators.Unreachable below = λ funcs more. record { operands = all-none _; results = all-none _; successors = all-none _; names = tt }
 terminator-in regs nodes names _ below = tt
 
 -- ---- lists of nodes
@@ -283,11 +329,26 @@ on-all : {A : Type 0} (P : Type 0) (o : Option A) → P → OnSome (λ (x : A). 
 on-all P None h = tt
 on-all P (Some x) h = h
 
+select-width : (names : List Named) (r : RegId) (next : NodeId) (c : Value) (width : Option ℕ) (a : Value) (other : Option ℕ) (b : Value)
+    → OnSome (λ (x : Node). IsWidth (type.Int (unwrap_or width 0))) (spec.select_of names r next c width a other b)
+select-width names r next c None a other b = tt
+select-width names r next c (Some width) a None b = tt
+select-width names r next c (Some width) a (Some other) b =
+    let made = spec.choice_of r next (spec.operand_of names 1 c.form) (spec.operand_of names width a.form) (spec.operand_of names width b.form) in
+    on-if-true (λ (x : Node). IsWidth (type.Int width)) (spec.is_width width && (width == other)) made
+    (λ h. on-all (IsWidth (type.Int width)) made (width-is width (left-true (spec.is_width width) (width == other) h)))
+
 operation-width : (names : List Named) (r : RegId) (next : NodeId) (o : Operation) → OnSome (λ (x : Node). IsWidth (type.Int (result_width o))) (spec.operation_of names r next o)
 operation-width names r next (operations.Binary op width a b) =
-    on-if-true (λ (x : Node). IsWidth (type.Int width)) (spec.is_built op && spec.is_width width) (spec.bin_of op r next (spec.operand_of names width a.form) (spec.operand_of names width b.form))
-    (λ h. on-all (IsWidth (type.Int width)) (spec.bin_of op r next (spec.operand_of names width a.form) (spec.operand_of names width b.form)) (width-is width (right-true (spec.is_built op) (spec.is_width width) h)))
-operation-width names r next (operations.Compare pred kind a b) = on-all (IsWidth (type.Int 1)) (spec.compare_of names pred r next (spec.width_of kind) a b) (omega arith, omega arith)
+    on-if-true (λ (x : Node). IsWidth (type.Int width)) (spec.is_width width) (spec.bin_of op r next (spec.operand_of names width a.form) (spec.operand_of names width b.form))
+    (λ h. on-all (IsWidth (type.Int width)) (spec.bin_of op r next (spec.operand_of names width a.form) (spec.operand_of names width b.form)) (width-is width h))
+operation-width names r next (operations.Compare pred kind a b) = on-all (IsWidth (type.Int 1)) (spec.compare_of names pred r next (width_of kind) a b) (omega arith, omega arith)
+operation-width names r next (operations.Cast op from value to) =
+    on-if-true (λ (x : Node). IsWidth (type.Int to)) (spec.is_width from && spec.is_width to && spec.converts op from to) (spec.cast_of op r next (spec.operand_of names from value.form))
+    (λ h. on-all (IsWidth (type.Int to)) (spec.cast_of op r next (spec.operand_of names from value.form))
+    (width-is to (right-true (spec.is_width from) (spec.is_width to) (left-true (spec.is_width from && spec.is_width to) (spec.converts op from to) h))))
+operation-width names r next (operations.Select c a b) = select-width names r next c (width_of a.kind) a.value (width_of b.kind) b.value
+operation-width names r next (operations.Call result callee arguments) = on-all (IsWidth (type.Int 32)) (spec.operation_of names r next (operations.Call result callee arguments)) (omega arith, omega arith)
 operation-width names r next _ = tt
 
 one-width : (P Q : Type 0) (x : Option Node) (xs : Option (List Node)) → OnSome (λ (n : Node). P) x → OnSome (λ (ns : List Node). Q) xs → OnSome (λ (ns : List Node). P × Q) (spec.with_one x xs)
@@ -328,35 +389,76 @@ widths-are names r n (b ∷ bs) =
 
 -- ---- the program
 
-main-whole : (bs : List Block) (ns : List Node) → AreIn (registers_in bs) (nodes_in bs) (nodes_in bs) ns → All IsWidth (types_of (named_in 0 0 bs)) → IsFew (main_with (named_in 0 0 bs) ns) → 0 < length ns
-    → IsFuncOf 0 1 (main_with (named_in 0 0 bs) ns)
-main-whole bs ns inside widths few some = record {
+-- nodes that are a program's whatever its functions are, where the calls among them have two
+in-program : (regs nodes funcs : ℕ) (ns : List Node) → All (NodeIn regs nodes) ns → (list_any is_call ns ≡ true → 1 < funcs) → All (IsNodeOf 0 funcs regs nodes) ns
+in-program regs nodes funcs [] h more = all-none _
+in-program regs nodes funcs (n ∷ ns) h more =
+    All-cons (IsNodeOf 0 funcs regs nodes) n ns (All-head (NodeIn regs nodes) n ns h funcs (λ is. more (ap (λ b. b || list_any is_call ns) is)))
+    (in-program regs nodes funcs ns (All-tail (NodeIn regs nodes) n ns h) (λ is. more (ap (λ b. is_call n || b) is ∙ or-true (is_call n))))
+  where
+    or-true : (b : Bool) → (b || true) ≡ true
+    or-true true = refl
+    or-true false = refl
+
+main-whole : (funcs : ℕ) (bs : List Block) (ns : List Node) → AreIn (registers_in bs) (nodes_in bs) (nodes_in bs) ns → (list_any is_call ns ≡ true → 1 < funcs) → All IsWidth (types_of (named_in 0 0 bs)) → IsFew (main_with (named_in 0 0 bs) ns) → 0 < length ns
+    → IsFuncOf 0 funcs (main_with (named_in 0 0 bs) ns)
+main-whole funcs bs ns inside more widths few some = record {
   few_nodes = few.0;
   few_regs = few.1;
   nonempty = some;
   named = names-length (named_in 0 0 bs);
   params = omega arith;
   widths = widths;
-  nodes = subst (λ k. All (IsNodeOf 0 1 k (length ns)) ns) (sym (types-length 0 0 bs)) (subst (λ k. All (IsNodeOf 0 1 (registers_in bs) k) ns) (sym inside.0) inside.1);
+  nodes = subst (λ k. All (IsNodeOf 0 funcs k (length ns)) ns) (sym (types-length 0 0 bs)) (subst (λ k. All (IsNodeOf 0 funcs (registers_in bs) k) ns) (sym inside.0) (in-program (registers_in bs) (nodes_in bs) funcs ns inside.1 more));
   clashes = all-none _;
   bad_edges = all-none _;
 }
 
-pub program-whole : (bs : List Block) (ns : List Node) → IsFuncOf 0 1 (main_with (named_in 0 0 bs) ns) → IsWhole (program_with (main_with (named_in 0 0 bs) ns))
-program-whole bs ns whole = record {
-  few_globals = omega arith;
-  few_funcs = omega arith;
-  globals = all-none _;
-  funcs = all-one (IsFuncOf 0 1) (main_with (named_in 0 0 bs) ns) whole;
-  main = (main_with (named_in 0 0 bs) ns, refl, record { params = refl; result = refl });
-  defined = omega arith;
+getchar-whole : (funcs : ℕ) → IsFuncOf 0 funcs getchar
+getchar-whole funcs = record {
+  few_nodes = omega arith;
+  few_regs = omega arith;
+  nonempty = omega arith;
+  named = refl;
+  params = omega arith;
+  widths = all-one IsWidth (type.Int 32) (omega arith, omega arith);
+  nodes = all-two (IsNodeOf 0 funcs 1 2) (node.In (record { 0 = 0 }) (record { 0 = 1 })) (node.Ret (Some (operand.Reg (record { 0 = 0 })))) (record {
+      operands = all-none _;
+      results = all-one (λ (q : RegId). q.0 < 1) (record { 0 = 0 }) (omega arith);
+      successors = all-one (λ (s : NodeId). s.0 < 2) (record { 0 = 1 }) (omega arith);
+      names = tt;
+    }) (record { operands = all-one (OperandIn 0 1) (operand.Reg (record { 0 = 0 })) (omega arith); results = all-none _; successors = all-none _; names = tt });
+  clashes = all-none _;
+  bad_edges = all-none _;
 }
+
+pub program-whole : (bs : List Block) (ns : List Node) → ((funcs : ℕ) → (list_any is_call ns ≡ true → 1 < funcs) → IsFuncOf 0 funcs (main_with (named_in 0 0 bs) ns)) → IsWhole (program_with (main_with (named_in 0 0 bs) ns))
+program-whole bs ns whole = by-calls (list_any is_call ns) whole
+  where
+    by-calls : (calls : Bool) → ((funcs : ℕ) → (calls ≡ true → 1 < funcs) → IsFuncOf 0 funcs (main_with (named_in 0 0 bs) ns))
+        → IsWhole (record { globals = []; funcs = main_with (named_in 0 0 bs) ns ∷ (if calls then getchar ∷ [] else []); main = record { 0 = 0 }; defined = 1 })
+    by-calls true whole = record {
+      few_globals = omega arith;
+      few_funcs = omega arith;
+      globals = all-none _;
+      funcs = all-two (IsFuncOf 0 2) (main_with (named_in 0 0 bs) ns) getchar (whole 2 (λ is. omega arith)) (getchar-whole 2);
+      main = (main_with (named_in 0 0 bs) ns, refl, record { params = refl; result = refl });
+      defined = omega arith;
+    }
+    by-calls false whole = record {
+      few_globals = omega arith;
+      few_funcs = omega arith;
+      globals = all-none _;
+      funcs = all-one (IsFuncOf 0 1) (main_with (named_in 0 0 bs) ns) (whole 1 (λ is. absurd (false≢true is)));
+      main = (main_with (named_in 0 0 bs) ns, refl, record { params = refl; result = refl });
+      defined = omega arith;
+    }
 
 pub nodes-whole : (bs : List Block) → 0 < length bs → OnSome (λ ns. IsFew (main_with (named_in 0 0 bs) ns) → IsWhole (program_with (main_with (named_in 0 0 bs) ns))) (spec.nodes_of (named_in 0 0 bs) 0 0 bs)
 nodes-whole bs some =
     let below = names-below (registers_in bs) (nodes_in bs) 0 0 bs (omega arith) (omega arith) in
     both-on (AreIn (registers_in bs) (nodes_in bs) (nodes_in bs)) (λ (ns : List Node). All IsWidth (types_of (named_in 0 0 bs))) _ (spec.nodes_of (named_in 0 0 bs) 0 0 bs)
-    (λ ns inside widths few. program-whole bs ns (main-whole bs ns inside widths few (omega (arith, inside.0, has-nodes bs some))))
+    (λ ns inside widths few. program-whole bs ns (λ funcs more. main-whole funcs bs ns inside more widths few (omega (arith, inside.0, has-nodes bs some))))
     (nodes-are-in (registers_in bs) (nodes_in bs) (named_in 0 0 bs) 0 0 bs below (omega arith) (omega arith)) (widths-are (named_in 0 0 bs) 0 0 bs)
   where
     both-on : {A : Type 0} (P Q R : A → Type 0) (o : Option A) → ((x : A) → P x → Q x → R x) → OnSome P o → OnSome Q o → OnSome R o
@@ -373,7 +475,7 @@ WholeIfFew : ProgramData → Type 0
 WholeIfFew p = IsSmall p → IsWhole p
 
 few-of : (f : Func) → IsSmall (program_with f) → IsFew f
-few-of f h = All-head IsFew f [] h
+few-of f h = All-head IsFew f _ h
 
 with-whole : (names : List Named) (ns : Option (List Node)) → OnSome (λ xs. IsFew (main_with names xs) → IsWhole (program_with (main_with names xs))) ns → OnSome WholeIfFew (with_nodes names ns)
 unfolding WholeIfFew
@@ -395,7 +497,7 @@ functions-whole (f ∷ g ∷ fs) = tt
 
 pub resolved-whole : (t : IrTree) → OnSome (λ p. IsSmall p → IsWhole p) (resolved t)
 unfolding WholeIfFew
-resolved-whole t = on-if WholeIfFew ((0 == length t.types) && (0 == length t.globals) && (0 == length t.declares)) (of_functions t.functions) (functions-whole t.functions)
+resolved-whole t = on-if WholeIfFew ((0 == length t.types) && (0 == length t.globals) && list_all declares_getchar t.declares) (of_functions t.functions) (functions-whole t.functions)
 
 -- as the code asks for it
 pub whole-here : (t : IrTree) (o : Option ProgramData) (p : ProgramData) → o ≡ resolved t → o ≡ Some p → IsSmall p → IsWhole p

@@ -1,8 +1,10 @@
 -- The names of a function (Language Reference, "Identifiers" and "Functions"): its blocks and its registers share one space.
-use Rattle.std.specs.Prelude.{ℕ, ◌+◌, Bool, true, false, not, ◌&&◌, ◌||◌, if◌then◌else◌, List, [], ◌∷◌, ◌++◌, length, Option, Some, None}
+use Rattle.std.specs.Prelude.{ℕ, ◌+◌, Bool, true, false, not, ◌&&◌, ◌||◌, if◌then◌else◌, List, [], ◌∷◌, ◌++◌, length, Option, Some, None, unwrap_or}
 use Rattle.std.specs.Fmt.{decimal}
 use Rattle.ir_tree.specs.Texts.{same}
 use Rattle.ir_tree.specs.declared.types.Name.{Name}
+use Rattle.ir_tree.specs.declared.types.IrType.{IrType, out-IrType}
+use Rattle.ir_tree.specs.declared.types.IrType.TheOpen.{IrType-F}
 use Rattle.ir_tree.specs.declared.instructions.Operation.{Operation}
 use Rattle.ir_tree.specs.declared.instructions.Operation.TheVariants as operations
 use Rattle.ir_tree.specs.declared.instructions.Instruction.{Instruction}
@@ -19,10 +21,22 @@ text_of None = []
 abbrev pub named : List ℕ → Local → Named
 named name what = record { name = name; local = what }
 
--- how many bits the result of an operation has: an operation's are its operands', a comparison gives one
+abbrev pub width_at : IrType-F IrType → Option ℕ
+width_at (IrType-F.Int width) = Some width
+width_at _ = None
+
+-- the number of bits of an integer type
+abbrev pub width_of : IrType → Option ℕ
+width_of t = width_at (out-IrType t)
+
+-- How many bits the result of an operation has: a binary operation's are its operands', a comparison gives one, a conversion those
+-- that it names, a choice those of its sides, and the one function that is called 32.
 abbrev pub result_width : Operation → ℕ
 result_width (operations.Binary op width a b) = width
 result_width (operations.Compare pred kind a b) = 1
+result_width (operations.Cast op from value to) = to
+result_width (operations.Select condition a b) = unwrap_or (width_of a.kind) 0
+result_width (operations.Call result callee arguments) = 32
 result_width _ = 0
 
 -- the registers that instructions set, numbered from r on

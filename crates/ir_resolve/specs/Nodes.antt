@@ -1,6 +1,6 @@
 -- The nodes of a function, one for each instruction and each terminator, in the order of the text. What isn't built yet, and what the
 -- checks of names and types refuse, has none.
-use Rattle.std.specs.Prelude.{ℕ, ◌+◌, ◌^◌, Bool, true, false, ◌&&◌, ◌==◌, nat_le, nat_lt, if◌then◌else◌, List, [], ◌∷◌, length, Option, Some, None}
+use Rattle.std.specs.Prelude.{ℕ, ◌+◌, ◌^◌, Bool, false, ◌&&◌, ◌==◌, nat_le, nat_lt, if◌then◌else◌, List, [], ◌∷◌, length, Option, Some, None, codes}
 use Rattle.bitnum.specs.Number.{Number}
 use Rattle.bitnum.specs.Operations.{applied}
 use Rattle.bitnum.specs.declared.BinOp.{BinOp}
@@ -12,8 +12,12 @@ use Rattle.flat_ir.specs.declared.nodes.Node.{Node}
 use Rattle.flat_ir.specs.declared.nodes.Node.TheVariants as node
 use Rattle.flat_ir.specs.declared.nodes.Operand.{Operand}
 use Rattle.flat_ir.specs.declared.nodes.Operand.TheVariants as operand
-use Rattle.ir_tree.specs.declared.types.IrType.{IrType, out-IrType}
-use Rattle.ir_tree.specs.declared.types.IrType.TheOpen.{IrType-F}
+use Rattle.flat_ir.specs.declared.nodes.CastOp.{CastOp}
+use Rattle.flat_ir.specs.declared.nodes.CastOp.TheVariants as casts
+use Rattle.ir_tree.specs.Texts.{same}
+use Rattle.ir_tree.specs.declared.types.IrType.{IrType}
+use Rattle.ir_tree.specs.declared.instructions.CastOp.{CastOp as TreeCast}
+use Rattle.ir_tree.specs.declared.instructions.CastOp.TheVariants as tree_casts
 use Rattle.ir_tree.specs.declared.constants.Integer.{Integer}
 use Rattle.ir_tree.specs.declared.constants.Value.{Value}
 use Rattle.ir_tree.specs.declared.constants.ValueForm.{ValueForm}
@@ -27,17 +31,9 @@ use Rattle.ir_tree.specs.declared.instructions.Block.{Block}
 use Rattle.ir_resolve.specs.declared.names.Local.{Local}
 use Rattle.ir_resolve.specs.declared.names.Local.TheVariants.{Register, Label}
 use Rattle.ir_resolve.specs.declared.names.Named.{Named}
-use Rattle.ir_resolve.specs.Names.{found}
+use Rattle.ir_resolve.specs.Names.{found, width_of}
 
--- ---- types and operands
-
-abbrev pub width_at : IrType-F IrType → Option ℕ
-width_at (IrType-F.Int width) = Some width
-width_at _ = None
-
--- the number of bits of an integer type
-abbrev pub width_of : IrType → Option ℕ
-width_of t = width_at (out-IrType t)
+-- ---- operands
 
 -- a register of so many bits
 abbrev pub register_of : ℕ → Option Local → Option Operand
@@ -77,15 +73,6 @@ block_of _ = None
 
 -- ---- instructions
 
--- the operations that are built
-abbrev pub is_built : BinOp → Bool
-is_built ops.Add = true
-is_built ops.Sub = true
-is_built ops.And = true
-is_built ops.Or = true
-is_built ops.Xor = true
-is_built _ = false
-
 abbrev pub bin_of : BinOp → RegId → NodeId → Option Operand → Option Operand → Option Node
 bin_of op r next (Some a) (Some b) = Some (node.Bin op a b r next)
 bin_of op r next _ _ = None
@@ -98,11 +85,57 @@ abbrev pub compare_of : List Named → Pred → RegId → NodeId → Option ℕ 
 compare_of names pred r next (Some width) a b = cmp_of pred r next (operand_of names width a.form) (operand_of names width b.form)
 compare_of names pred r next None a b = None
 
+-- a conversion from so many bits to so many: `trunc` narrows, `zext` and `sext` widen
+abbrev pub converts : TreeCast → ℕ → ℕ → Bool
+converts tree_casts.Trunc from to = nat_lt to from
+converts tree_casts.Zext from to = nat_lt from to
+converts tree_casts.Sext from to = nat_lt from to
+
+abbrev pub conversion : TreeCast → CastOp
+conversion tree_casts.Trunc = casts.Trunc
+conversion tree_casts.Zext = casts.Zext
+conversion tree_casts.Sext = casts.Sext
+
+abbrev pub cast_of : TreeCast → RegId → NodeId → Option Operand → Option Node
+cast_of op r next (Some a) = Some (node.Cast (conversion op) a r next)
+cast_of op r next None = None
+
+abbrev pub choice_of : RegId → NodeId → Option Operand → Option Operand → Option Operand → Option Node
+choice_of r next (Some c) (Some a) (Some b) = Some (node.Select c a b r next)
+choice_of r next _ _ _ = None
+
+-- a choice between integers of one type
+abbrev pub select_of : List Named → RegId → NodeId → Value → Option ℕ → Value → Option ℕ → Value → Option Node
+select_of names r next c (Some width) a (Some other) b =
+    if is_width width && (width == other) then choice_of r next (operand_of names 1 c.form) (operand_of names width a.form) (operand_of names width b.form) else None
+select_of names r next c _ a _ b = None
+
+abbrev pub has_32 : Option ℕ → Bool
+has_32 (Some width) = width == 32
+has_32 None = false
+
+abbrev pub is_32 : Option IrType → Bool
+is_32 (Some t) = has_32 (width_of t)
+is_32 None = false
+
+-- the one function that is called: `i32 @getchar()`
+abbrev pub is_getchar : List ℕ → ℕ → Option IrType → Bool
+is_getchar name parameters result = same name (codes "getchar") && (0 == parameters) && is_32 result
+
+-- a call of it, the function behind main
+abbrev pub getchar_call : RegId → NodeId → Node
+getchar_call r next = node.Call (record { 0 = 1 }) [] (Some r) next
+
 -- the node of an operation that sets a register and goes on
 abbrev pub operation_of : List Named → RegId → NodeId → Operation → Option Node
 operation_of names r next (operations.Binary op width a b) =
-    if is_built op && is_width width then bin_of op r next (operand_of names width a.form) (operand_of names width b.form) else None
+    if is_width width then bin_of op r next (operand_of names width a.form) (operand_of names width b.form) else None
 operation_of names r next (operations.Compare pred kind a b) = compare_of names pred r next (width_of kind) a b
+operation_of names r next (operations.Cast op from value to) =
+    if is_width from && is_width to && converts op from to then cast_of op r next (operand_of names from value.form) else None
+operation_of names r next (operations.Select c a b) = select_of names r next c (width_of a.kind) a.value (width_of b.kind) b.value
+operation_of names r next (operations.Call result callee arguments) =
+    if is_getchar callee.text (length arguments) result then Some (getchar_call r next) else None
 operation_of names r next _ = None
 
 -- ---- terminators
@@ -129,6 +162,7 @@ terminator_of names (terminators.Return (Some t)) = returned names (width_of t.k
 terminator_of names (terminators.Jump to) = jump_of (block_of (found to.text names))
 terminator_of names (terminators.Branch condition first second) =
     branch_of (operand_of names 1 condition.form) (block_of (found first.text names)) (block_of (found second.text names))
+terminator_of names terminators.Unreachable = Some node.Unreachable
 terminator_of names _ = None
 
 -- ---- blocks

@@ -1,12 +1,14 @@
 -- The program of a module (Language Reference, "Module Structure" and "Functions").
-use Rattle.std.specs.Prelude.{ℕ, Bool, false, not, ◌&&◌, ◌==◌, if◌then◌else◌, List, [], ◌∷◌, ◌++◌, length, Option, Some, None, codes}
+use Rattle.std.specs.Prelude.{ℕ, Bool, true, false, not, ◌&&◌, ◌==◌, if◌then◌else◌, List, [], ◌∷◌, ◌++◌, length, Option, Some, None, codes}
+use Rattle.std.specs.List.{list_any, list_all}
 use Rattle.flat_ir.specs.declared.nodes.Node.{Node}
+use Rattle.flat_ir.specs.declared.nodes.Node.TheVariants as node
+use Rattle.flat_ir.specs.declared.nodes.Operand.TheVariants as operand
 use Rattle.flat_ir.specs.declared.nodes.RegType.{RegType}
 use Rattle.flat_ir.specs.declared.nodes.RegType.TheVariants as type
 use Rattle.flat_ir.specs.declared.program.Func.{Func}
 use Rattle.flat_ir.specs.declared.program.ProgramData.{ProgramData}
 use Rattle.ir_tree.specs.Texts.{same}
-use Rattle.ir_tree.specs.declared.types.IrType.{IrType}
 use Rattle.ir_tree.specs.declared.module.Header.{Header}
 use Rattle.ir_tree.specs.declared.module.FunctionDefinition.{FunctionDefinition}
 use Rattle.ir_tree.specs.declared.module.IrTree.{IrTree}
@@ -14,7 +16,7 @@ use Rattle.ir_resolve.specs.declared.names.Local.{Local}
 use Rattle.ir_resolve.specs.declared.names.Local.TheVariants.{Register, Label}
 use Rattle.ir_resolve.specs.declared.names.Named.{Named}
 use Rattle.ir_resolve.specs.Names.{named_in, are_distinct, are_counted}
-use Rattle.ir_resolve.specs.Nodes.{width_of, nodes_of}
+use Rattle.ir_resolve.specs.Nodes.{is_32, is_getchar, nodes_of}
 
 abbrev pub type_in : Local → List RegType
 type_in (Register r width) = type.Int width ∷ []
@@ -46,16 +48,27 @@ main_with names nodes = record {
   bad_edges = [];
 }
 
+-- `getchar`: it reads one byte of the input, and returns it or -1
+abbrev pub getchar : Func
+getchar = record {
+  name = codes "getchar";
+  params = 0;
+  regs = type.Int 32 ∷ [];
+  reg_names = [] ∷ [];
+  result = Some (type.Int 32);
+  nodes = node.In (record { 0 = 0 }) (record { 0 = 1 }) ∷ node.Ret (Some (operand.Reg (record { 0 = 0 }))) ∷ [];
+  clashes = [];
+  bad_edges = [];
+}
+
+abbrev pub is_call : Node → Bool
+is_call (node.Call callee args result next) = true
+is_call _ = false
+
+-- main, and behind it getchar where it is called
 abbrev pub program_with : Func → ProgramData
-program_with main = record { globals = []; funcs = main ∷ []; main = record { 0 = 0 }; defined = 1 }
-
-abbrev pub has_32 : Option ℕ → Bool
-has_32 (Some width) = width == 32
-has_32 None = false
-
-abbrev pub is_32 : Option IrType → Bool
-is_32 (Some t) = has_32 (width_of t)
-is_32 None = false
+program_with main =
+    record { globals = []; funcs = main ∷ (if list_any is_call main.nodes then getchar ∷ [] else []); main = record { 0 = 0 }; defined = 1 }
 
 -- `i32 @main()`
 abbrev pub is_main : Header → Bool
@@ -79,7 +92,11 @@ abbrev pub of_functions : List FunctionDefinition → Option ProgramData
 of_functions (f ∷ []) = if not (0 == length f.blocks) then program_of f else None
 of_functions _ = None
 
--- The program of a module that is one function, main, whose operations and terminators are built, and which the checks of names and
--- types accept.
+-- `declare i32 @getchar()`
+abbrev pub declares_getchar : Header → Bool
+declares_getchar h = is_getchar h.name.text (length h.parameters) h.result
+
+-- The program of a module that is one function, main, beside declarations of getchar, whose operations and terminators are built, and
+-- which the checks of names and types accept.
 abbrev pub resolved : IrTree → Option ProgramData
-resolved t = if (0 == length t.types) && (0 == length t.globals) && (0 == length t.declares) then of_functions t.functions else None
+resolved t = if (0 == length t.types) && (0 == length t.globals) && list_all declares_getchar t.declares then of_functions t.functions else None

@@ -8,7 +8,7 @@ ghost use Rattle.ir_resolve.specs.Names as spec;
 
 use flat_ir::{NodeId, RegId};
 use ir_tree::instructions::{Block, Instruction, Operation};
-use ir_tree::types::Name;
+use ir_tree::types::{IrType, Name};
 use plain_list::Sequence;
 use std::alloc::{AllocError, Global};
 
@@ -42,12 +42,25 @@ fn text_of<'a>(name: &'a Option<Name>) -> &'a [u8]
     }
 }
 
+/// The number of bits of an integer type.
+pub fn width_of(kind: &IrType) -> Option<u8>
+    ensures { result ≡ spec.width_of kind.now }
+{
+    match kind {
+        IrType::Int(width) => Some(*width),
+        _ => None,
+    }
+}
+
 fn result_width(operation: &Operation) -> u8
     ensures { result ≡ spec.result_width operation.now }
 {
     match operation {
         Operation::Binary { width, .. } => *width,
         Operation::Compare { .. } => 1,
+        Operation::Cast { to, .. } => *to,
+        Operation::Select { a, .. } => width_of(&a.kind).unwrap_or(0),
+        Operation::Call { .. } => 32,
         _ => 0,
     }
 }

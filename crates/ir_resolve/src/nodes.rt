@@ -3,26 +3,20 @@ ghost use Rattle.std.specs.Prelude.{◌≡◌, ◌<◌, ◌^◌, nat_lt, IfOk};
 ghost use Rattle.std.specs.Option.{option_map};
 ghost use Rattle.bitnum.specs.Number.{IsWidth};
 ghost use Rattle.ir_resolve.specs.Names.{found as found_in};
+ghost use Rattle.ir_tree.specs.declared.instructions.Operation.TheVariants as operations;
 ghost use Rattle.ir_resolve.specs.Nodes as spec;
 ghost use Rattle.ir_resolve.specs.Pushes.{Pushes, vec_items};
 
-use crate::names::{Local, Named, behind, behind_all, found, next};
+use crate::names::{Local, Named, behind, behind_all, found, is_same, next, width_of};
 use bitnum::{BinOp, Num, Pred, apply};
-use flat_ir::{Node, NodeId, Operand, RegId};
+use flat_ir::{CastOp, FuncId, Node, NodeId, Operand, RegId};
 use ir_tree::constants::{Integer, Value, ValueForm};
-use ir_tree::instructions::{Block, Instruction, Operation, TerminatorForm};
+use ir_tree::instructions::{
+    Block, CastOp as TreeCast, Instruction, Operation, TerminatorForm, Typed,
+};
 use ir_tree::types::{IrType, Name};
+use plain_list::Sequence;
 use std::alloc::{AllocError, Global};
-
-/// The number of bits of an integer type.
-pub fn width_of(kind: &IrType) -> Option<u8>
-    ensures { result ≡ spec.width_of kind.now }
-{
-    match kind {
-        IrType::Int(width) => Some(*width),
-        _ => None,
-    }
-}
 
 fn register_of(width: u8, local: Option<Local>) -> Option<Operand>
     ensures { result ≡ spec.register_of width local }
@@ -110,15 +104,6 @@ fn block_of(local: Option<Local>) -> Option<NodeId>
     }
 }
 
-fn is_built(op: BinOp) -> bool
-    ensures { result ≡ spec.is_built op }
-{
-    match op {
-        BinOp::Add | BinOp::Sub | BinOp::And | BinOp::Or | BinOp::Xor => true,
-        _ => false,
-    }
-}
-
 fn bin_of(
     op: BinOp,
     register: RegId,
@@ -182,8 +167,153 @@ fn compare_of(
     }
 }
 
+fn binary_of(
+    names: &[Named],
+    op: BinOp,
+    register: RegId,
+    next: NodeId,
+    width: u8,
+    a: &Value,
+    b: &Value,
+) -> Option<Node>
+    ensures { result ≡ spec.operation_of names.now register next (operations.Binary op width a.now b.now) }
+{
+    if is_width(width) {
+        let a = operand_of(names, width, &a.form);
+        let b = operand_of(names, width, &b.form);
+        bin_of(op, register, next, a, b)
+    } else {
+        None
+    }
+}
+
+fn converts(op: TreeCast, from: u8, to: u8) -> bool
+    ensures { result ≡ spec.converts op from to }
+{
+    match op {
+        TreeCast::Trunc => to < from,
+        TreeCast::Zext | TreeCast::Sext => from < to,
+    }
+}
+
+fn conversion(op: TreeCast) -> CastOp
+    ensures { result ≡ spec.conversion op }
+{
+    match op {
+        TreeCast::Trunc => CastOp::Trunc,
+        TreeCast::Zext => CastOp::Zext,
+        TreeCast::Sext => CastOp::Sext,
+    }
+}
+
+fn cast_of(op: TreeCast, register: RegId, next: NodeId, a: Option<Operand>) -> Option<Node>
+    ensures { result ≡ spec.cast_of op register next a }
+{
+    match a {
+        Some(a) => Some(Node::Cast {
+            op: conversion(op),
+            a,
+            result: register,
+            next,
+        }),
+        None => None,
+    }
+}
+
+fn converted(
+    names: &[Named],
+    op: TreeCast,
+    register: RegId,
+    next: NodeId,
+    widths: (u8, u8),
+    value: &Value,
+) -> Option<Node>
+    ensures { result ≡ spec.operation_of names.now register next (operations.Cast op widths.0 value.now widths.1) }
+{
+    if is_width(widths.0) && is_width(widths.1) && converts(op, widths.0, widths.1) {
+        cast_of(op, register, next, operand_of(names, widths.0, &value.form))
+    } else {
+        None
+    }
+}
+
+fn choice_of(
+    register: RegId,
+    next: NodeId,
+    condition: Option<Operand>,
+    a: Option<Operand>,
+    b: Option<Operand>,
+) -> Option<Node>
+    ensures { result ≡ spec.choice_of register next condition a b }
+{
+    let (Some(condition), Some(a), Some(b)) = (condition, a, b) else {
+        return None;
+    };
+    Some(Node::Select {
+        condition,
+        a,
+        b,
+        result: register,
+        next,
+    })
+}
+
+// A choice between integers of one type.
+fn select_of(
+    names: &[Named],
+    register: RegId,
+    next: NodeId,
+    condition: &Value,
+    a: &Typed,
+    b: &Typed,
+) -> Option<Node>
+    ensures { result ≡ spec.operation_of names.now register next (operations.Select condition.now a.now b.now) }
+{
+    let (Some(width), Some(other)) = (width_of(&a.kind), width_of(&b.kind)) else {
+        return None;
+    };
+    if is_width(width) && width == other {
+        let condition = operand_of(names, 1, &condition.form);
+        let a = operand_of(names, width, &a.value.form);
+        let b = operand_of(names, width, &b.value.form);
+        choice_of(register, next, condition, a, b)
+    } else {
+        None
+    }
+}
+
+/// Whether a function's result is an integer of 32 bits.
+pub fn is_32(kind: &Option<IrType>) -> bool
+    ensures { result ≡ spec.is_32 kind.now }
+{
+    match kind {
+        Some(kind) => width_of(kind) == Some(32),
+        None => false,
+    }
+}
+
+/// Whether a name, a number of parameters and a result are those of `getchar`.
+pub fn is_getchar(name: &[u8], parameters: usize, kind: &Option<IrType>) -> bool
+    ensures { result ≡ spec.is_getchar name.now parameters kind.now }
+{
+    is_same(name, b"getchar") && parameters == 0 && is_32(kind)
+}
+
+// A call of `getchar`, the function behind main.
+fn getchar_call(alloc: Global, register: RegId, next: NodeId) -> Node
+    ensures { result ≡ spec.getchar_call register next }
+{
+    Node::Call {
+        callee: FuncId(1),
+        args: Sequence::new(alloc),
+        result: Some(register),
+        next,
+    }
+}
+
 // The node of an operation that sets a register and goes on.
 fn operation_of(
+    alloc: Global,
     names: &[Named],
     register: RegId,
     next: NodeId,
@@ -193,16 +323,30 @@ fn operation_of(
 {
     match operation {
         Operation::Binary { op, width, a, b } => {
-            if is_built(*op) && is_width(*width) {
-                let a = operand_of(names, *width, &a.form);
-                let b = operand_of(names, *width, &b.form);
-                bin_of(*op, register, next, a, b)
-            } else {
-                None
-            }
+            binary_of(names, *op, register, next, *width, a, b)
         }
         Operation::Compare { pred, kind, a, b } => {
             compare_of(names, *pred, register, next, width_of(kind), a, b)
+        }
+        Operation::Cast {
+            op,
+            from,
+            value,
+            to,
+        } => converted(names, *op, register, next, (*from, *to), value),
+        Operation::Select { condition, a, b } => {
+            select_of(names, register, next, condition, a, b)
+        }
+        Operation::Call {
+            result,
+            callee,
+            arguments,
+        } => {
+            if is_getchar(callee.text.as_slice(), arguments.len(), result) {
+                Some(getchar_call(alloc, register, next))
+            } else {
+                None
+            }
         }
         _ => None,
     }
@@ -277,12 +421,14 @@ fn terminator_of(names: &[Named], form: &TerminatorForm) -> Option<Node>
             let condition = operand_of(names, 1, &condition.form);
             branch_of(condition, target(names, if_true), target(names, if_false))
         }
+        TerminatorForm::Unreachable => Some(Node::Unreachable),
         _ => None,
     }
 }
 
 // Adds the nodes of instructions, of which the first sets this register and is this node; whether there are such nodes.
 fn push_instructions(
+    alloc: Global,
     names: &[Named],
     nodes: &mut Vec<Node>,
     register: u32,
@@ -295,7 +441,7 @@ fn push_instructions(
     let mut place = node;
     'instructions: for instruction in instructions {
         let behind = next(place)?;
-        let found = operation_of(names, RegId(at), NodeId(behind), &instruction.operation);
+        let found = operation_of(alloc, names, RegId(at), NodeId(behind), &instruction.operation);
         let Some(node) = found else {
             return Ok(false);
         };
@@ -323,6 +469,7 @@ fn push_terminator(
 
 // Adds the nodes of a block; whether there are such nodes.
 fn push_block(
+    alloc: Global,
     names: &[Named],
     nodes: &mut Vec<Node>,
     register: u32,
@@ -334,7 +481,14 @@ fn push_block(
     if !block.phis.is_empty() {
         return Ok(false);
     }
-    if !push_instructions(names, nodes, register, node, block.instructions.as_slice())? {
+    if !push_instructions(
+        alloc,
+        names,
+        nodes,
+        register,
+        node,
+        block.instructions.as_slice(),
+    )? {
         return Ok(false);
     }
     push_terminator(names, nodes, &block.terminator.form)
@@ -352,7 +506,7 @@ pub fn nodes_in(
     let mut register = 0;
     let mut node = 0;
     'each: for block in blocks {
-        if !push_block(names, &mut nodes, register, node, block)? {
+        if !push_block(alloc, names, &mut nodes, register, node, block)? {
             return Ok(None);
         }
         register = behind_all(register, block.instructions.as_slice())?;

@@ -1,15 +1,15 @@
 //! The program of a module (Language Reference, "Module Structure").
-ghost use Rattle.std.specs.Prelude.{◌≡◌, IfOk, IfSome};
+ghost use Rattle.std.specs.Prelude.{◌≡◌, All, IfOk, IfSome};
+ghost use Rattle.std.specs.List.{list_any, list_all};
 ghost use Rattle.std.specs.Option.{option_map};
 ghost use Rattle.ir_resolve.specs.Programs as spec;
 ghost use Rattle.ir_resolve.specs.Pushes.{vec_items};
 ghost use Rattle.ir_resolve.specs.Small.{IsFew, IsSmall};
 
 use crate::names::{Local, Named, are_counted, are_distinct, is_same, names_in};
-use crate::nodes::{nodes_in, width_of};
-use flat_ir::{Func, FuncId, Node, Program, ProgramData, RegType};
+use crate::nodes::{is_32, is_getchar, nodes_in};
+use flat_ir::{Func, FuncId, Node, NodeId, Operand, Program, ProgramData, RegId, RegType};
 use ir_tree::module::{FunctionDefinition, Header, IrTree};
-use ir_tree::types::IrType;
 use plain_list::Sequence;
 use std::alloc::{AllocError, Global};
 
@@ -61,6 +61,62 @@ fn main_with(alloc: Global, names: &[Named], nodes: Vec<Node>) -> Result<Func, A
     })
 }
 
+// `getchar`: it reads one byte of the input, and returns it or -1.
+fn getchar(alloc: Global) -> Result<Func, AllocError>
+    ensures { IfOk result (λ f. f ≡ spec.getchar) }
+{
+    let read = RegId(0);
+    let mut nodes = Sequence::of_one(
+        alloc,
+        Node::In {
+            result: read,
+            next: NodeId(1),
+        },
+    )?;
+    nodes.push(Node::Ret {
+        value: Some(Operand::Reg(read)),
+    })?;
+    Ok(Func {
+        name: Sequence::from_slice(alloc, b"getchar")?,
+        params: 0,
+        regs: Sequence::of_one(alloc, RegType::Int(32))?,
+        reg_names: Sequence::of_one(alloc, Sequence::new(alloc))?,
+        result: Some(RegType::Int(32)),
+        nodes,
+        clashes: Sequence::new(alloc),
+        bad_edges: Sequence::new(alloc),
+    })
+}
+
+fn is_call(node: &Node) -> bool
+    ensures { result ≡ spec.is_call node.now }
+{
+    match node {
+        Node::Call { .. } => true,
+        _ => false,
+    }
+}
+
+fn has_call(nodes: &[Node]) -> bool
+    ensures { result ≡ list_any spec.is_call nodes.now }
+{
+    nodes.iter().any(|node| is_call(node))
+}
+
+// The functions of the program with this main.
+fn functions_with(alloc: Global, main: Func) -> Result<Sequence<Func>, AllocError>
+    requires { IsFew main }
+    ensures funcs { IfOk result (λ funcs. funcs ≡ (spec.program_with main).funcs) }
+    ensures small { IfOk result (λ funcs. All IsFew funcs) }
+{
+    let calls = has_call(main.nodes.as_slice());
+    let mut funcs = Sequence::of_one(alloc, main)?;
+    if calls {
+        funcs.push(getchar(alloc)?)?;
+    }
+    Ok(funcs)
+}
+
 fn program_with(alloc: Global, main: Func) -> Result<ProgramData, AllocError>
     requires { IsFew main }
     ensures parts { IfOk result (λ parts. parts ≡ spec.program_with main) }
@@ -68,19 +124,10 @@ fn program_with(alloc: Global, main: Func) -> Result<ProgramData, AllocError>
 {
     Ok(ProgramData {
         globals: Sequence::new(alloc),
-        funcs: Sequence::of_one(alloc, main)?,
+        funcs: functions_with(alloc, main)?,
         main: FuncId(0),
         defined: 1,
     })
-}
-
-fn is_32(kind: &Option<IrType>) -> bool
-    ensures { result ≡ spec.is_32 kind.now }
-{
-    match kind {
-        Some(kind) => width_of(kind) == Some(32),
-        None => false,
-    }
 }
 
 fn is_main(header: &Header) -> bool
@@ -137,12 +184,31 @@ fn program_of(
     with_nodes(alloc, names.as_slice(), nodes)
 }
 
+fn declares_getchar(header: &Header) -> bool
+    ensures { result ≡ spec.declares_getchar header.now }
+{
+    is_getchar(
+        header.name.text.as_slice(),
+        header.parameters.len(),
+        &header.result,
+    )
+}
+
+fn all_declare_getchar(declares: &[Header]) -> bool
+    ensures { result ≡ list_all spec.declares_getchar declares.now }
+{
+    declares.iter().all(|header| declares_getchar(header))
+}
+
 // The parts of the program of a module.
 fn parts_of(alloc: Global, tree: &IrTree) -> Result<Option<ProgramData>, AllocError>
     ensures parts { IfOk result (λ parts. parts ≡ spec.resolved tree.now) }
     ensures small { IfOk result (λ parts. IfSome parts (λ p. IsSmall p)) }
 {
-    if !tree.types.is_empty() || !tree.globals.is_empty() || !tree.declares.is_empty() {
+    if !tree.types.is_empty() || !tree.globals.is_empty() {
+        return Ok(None);
+    }
+    if !all_declare_getchar(tree.declares.as_slice()) {
         return Ok(None);
     }
     match tree.functions.as_slice() {
@@ -151,7 +217,7 @@ fn parts_of(alloc: Global, tree: &IrTree) -> Result<Option<ProgramData>, AllocEr
     }
 }
 
-/// The program of a module that is one function, main, whose operations are built; none where a name, a number or a type isn't as
+/// The program of a module that is one function, main, beside declarations of `getchar`, whose operations are built; none where a name, a number or a type isn't as
 /// the module needs it.
 pub fn resolve(alloc: Global, tree: &IrTree) -> Result<Option<Program>, AllocError>
     ensures { IfOk result (λ program. program ≡ spec.resolved tree.now) }
