@@ -26,15 +26,22 @@ fn told(alloc: Global, words: &[&str]) -> Result<String, AllocError> {
 fn commands(rt: HostRuntime) -> Result<(), Fail> {
     for (words, text) in [
         (["explore", "F"].as_slice(), "4 100000 10000 1024 F"),
-        (["explore", "--input", "0", "F"].as_slice(), "0 100000 10000 1024 F"),
+        (
+            ["explore", "--input", "0", "F"].as_slice(),
+            "0 100000 10000 1024 F",
+        ),
         (
             [
-                "explore", "--input", "64", "--steps", "1000000", "--leaves", "1", "--shares", "100000", "F",
+                "explore", "--input", "64", "--steps", "1000000", "--leaves", "1", "--shares",
+                "100000", "F",
             ]
             .as_slice(),
             "64 1000000 1 100000 F",
         ),
-        (["explore", "--leaves", "2", "x y"].as_slice(), "4 100000 2 1024 x y"),
+        (
+            ["explore", "--leaves", "2", "x y"].as_slice(),
+            "4 100000 2 1024 x y",
+        ),
     ] {
         assert_eq!(rt; told(rt.alloc(), words)?.as_str(), text);
     }
@@ -51,10 +58,22 @@ fn usages(rt: HostRuntime) -> Result<(), Fail> {
         (["explore", "--input", "65", "F"].as_slice(), "usage 65\n"),
         (["explore", "--input", "00", "F"].as_slice(), "usage 00\n"),
         (["explore", "--steps", "0", "F"].as_slice(), "usage 0\n"),
-        (["explore", "--shares", "100001", "F"].as_slice(), "usage 100001\n"),
-        (["explore", "--steps", "5", "--input", "1", "F"].as_slice(), "usage --input\n"),
-        (["explore", "--steps", "5", "--steps", "5", "F"].as_slice(), "usage --steps\n"),
-        (["explore", "--input=1", "F"].as_slice(), "usage --input=1\n"),
+        (
+            ["explore", "--shares", "100001", "F"].as_slice(),
+            "usage 100001\n",
+        ),
+        (
+            ["explore", "--steps", "5", "--input", "1", "F"].as_slice(),
+            "usage --input\n",
+        ),
+        (
+            ["explore", "--steps", "5", "--steps", "5", "F"].as_slice(),
+            "usage --steps\n",
+        ),
+        (
+            ["explore", "--input=1", "F"].as_slice(),
+            "usage --input=1\n",
+        ),
         (["explore", "F", "G"].as_slice(), "usage G\n"),
         (["explore", "", "F"].as_slice(), "usage \n"),
     ] {

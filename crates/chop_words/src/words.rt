@@ -302,11 +302,12 @@ pub fn options_of(words: &[String]) -> Option<Options>
     ensures range { IfSome result AreInRange }
 {
     match hear_all(words) {
-        Some(Heard {
-            stage: Stage::End,
-            options,
-        }) => Some(options),
+        Some(
+            Heard {
+                stage: Stage::End,
+                options,
+            },
+        ) => Some(options),
         _ => None,
     }
 }
-

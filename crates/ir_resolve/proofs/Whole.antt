@@ -423,11 +423,11 @@ getchar-whole funcs = record {
   params = omega arith;
   widths = all-one IsWidth (type.Int 32) (omega arith, omega arith);
   nodes = all-two (IsNodeOf 0 funcs 1 2) (node.In (record { 0 = 0 }) (record { 0 = 1 })) (node.Ret (Some (operand.Reg (record { 0 = 0 })))) (record {
-      operands = all-none _;
-      results = all-one (λ (q : RegId). q.0 < 1) (record { 0 = 0 }) (omega arith);
-      successors = all-one (λ (s : NodeId). s.0 < 2) (record { 0 = 1 }) (omega arith);
-      names = tt;
-    }) (record { operands = all-one (OperandIn 0 1) (operand.Reg (record { 0 = 0 })) (omega arith); results = all-none _; successors = all-none _; names = tt });
+    operands = all-none _;
+    results = all-one (λ (q : RegId). q.0 < 1) (record { 0 = 0 }) (omega arith);
+    successors = all-one (λ (s : NodeId). s.0 < 2) (record { 0 = 1 }) (omega arith);
+    names = tt;
+  }) (record { operands = all-one (OperandIn 0 1) (operand.Reg (record { 0 = 0 })) (omega arith); results = all-none _; successors = all-none _; names = tt });
   clashes = all-none _;
   bad_edges = all-none _;
 }

@@ -441,7 +441,13 @@ fn push_instructions(
     let mut place = node;
     'instructions: for instruction in instructions {
         let behind = next(place)?;
-        let found = operation_of(alloc, names, RegId(at), NodeId(behind), &instruction.operation);
+        let found = operation_of(
+            alloc,
+            names,
+            RegId(at),
+            NodeId(behind),
+            &instruction.operation,
+        );
         let Some(node) = found else {
             return Ok(false);
         };
