@@ -1,3 +1,3 @@
 pub mod OfBytes
 pub mod Answering
-pub mod Numbers
+pub mod Shown

@@ -1,11 +1,10 @@
 -- What the code finds out of the bytes of a file, in the words of the definitions.
-use Rattle.std.proofs.Common.{◌≡◌, ℕ, Bool, true, false, List, Option, Some, None, Result, Ok, Err, IfOk, slice_get, sym, ◌∙◌, subst}
-use Rattle.std.proofs.lemmas.Option.{none-some, slice_get_within, get_or_from_slice_get}
-use Rattle.std.specs.declared.alloc.AllocError.{AllocError}
+use Rattle.std.proofs.Common.{◌≡◌, ℕ, suc, ◌+◌, ◌<◌, length, drop, drop-cons, get_or, All, arith, Bool, true, false, List, Option, Some, None, sym, ◌∙◌, subst}
+use Rattle.std.proofs.lemmas.Option.{none-some}
+use Rattle.std.proofs.lemmas.List.Elements.{All-cons}
 use Rattle.flat_ir.specs.declared.program.Func.{Func}
 use Rattle.flat_ir.specs.declared.program.ProgramData.{ProgramData}
 use Rattle.flat_ir.specs.Whole.{IsWhole, IsFuncOf}
-use Rattle.flat_ir.specs.Machine.{func_at}
 use Rattle.flow.specs.Flow.{AreDefined}
 use Rattle.flow.specs.Named.{IsNamed}
 use Rattle.flow.specs.NamedLaws.{func_is_named}
@@ -16,23 +15,15 @@ use Rattle.chop_top.specs.Accepted.{IsDefined, Reads, IsTreeOf, Tells}
 some-same : {A : Type 0} (x y : A) → Some x ≡ Some y → x ≡ y
 some-same x y same = cc
 
--- ---- main
+-- ---- functions
 
-pub main_is_named : (p parts : ProgramData) (main : Func) → IsWhole p → parts ≡ p → Some main ≡ slice_get parts.funcs parts.main.0 → IsNamed main
-main_is_named p parts main whole same there =
-    let at : slice_get p.funcs p.main.0 ≡ Some main = subst (λ q. slice_get q.funcs q.main.0 ≡ Some main) same (sym there) in
-    func_is_named _ _ main (subst (IsFuncOf _ _) (get_or_from_slice_get p.funcs p.main.0 main main at) (whole.funcs p.main.0 main (slice_get_within p.funcs p.main.0 main at)))
+-- each function of a program names nothing but its own
+pub each_is_named : (p : ProgramData) (k : ℕ) (d : Func) → IsWhole p → k < length p.funcs → IsNamed (get_or p.funcs k d)
+each_is_named p k d whole within = func_is_named _ _ (get_or p.funcs k d) (whole.funcs k d within)
 
-main-defined : (p : ProgramData) (main : Func) → func_at p p.main ≡ Some main → AreDefined main → IsDefined p
-main-defined p main there defined other at = subst AreDefined (some-same main other (sym there ∙ at)) defined
-
-pub main_tells : (p parts : ProgramData) (main : Func) (b : Bool) → parts ≡ p → Some main ≡ slice_get parts.funcs parts.main.0 → Tells b (AreDefined main) → Tells b (IsDefined p)
-main_tells p parts main true same there tells = main-defined p main (subst (λ q. slice_get q.funcs q.main.0 ≡ Some main) same (sym there)) tells
-main_tells p parts main false same there tells = λ defined. tells (defined main (subst (λ q. slice_get q.funcs q.main.0 ≡ Some main) same (sym there)))
-
-pub main_told : (p parts : ProgramData) (main : Func) (r : Result Bool AllocError) → parts ≡ p → Some main ≡ slice_get parts.funcs parts.main.0 → IfOk r (λ b. Tells b (AreDefined main)) → IfOk r (λ b. Tells b (IsDefined p))
-main_told p parts main (Ok b) same there tells = main_tells p parts main b same there tells
-main_told p parts main (Err e) same there tells = tt
+-- the functions from a place on, if all of them are defined, are all there are
+pub from_here : (funcs : List Func) (k : ℕ) (d : Func) → k < length funcs → AreDefined (get_or funcs k d) → (All AreDefined (drop k funcs) → All AreDefined funcs) → All AreDefined (drop (k + 1) funcs) → All AreDefined funcs
+from_here funcs k d within one before rest = before (subst (All AreDefined) (sym (drop-cons funcs k d within)) (All-cons AreDefined (get_or funcs k d) (drop (suc k) funcs) one (subst (λ n. All AreDefined (drop n funcs)) (omega arith) rest)))
 
 -- ---- programs
 

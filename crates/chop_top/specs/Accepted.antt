@@ -1,16 +1,14 @@
 -- The text of a program.
-use Rattle.std.specs.Prelude.{◌≡◌, ℕ, Bool, true, false, List, Option, Some, None}
-use Rattle.flat_ir.specs.declared.program.Func.{Func}
+use Rattle.std.specs.Prelude.{◌≡◌, ℕ, Bool, true, false, List, Option, Some, None, All}
 use Rattle.flat_ir.specs.declared.program.ProgramData.{ProgramData}
-use Rattle.flat_ir.specs.Machine.{func_at}
 use Rattle.flow.specs.Flow.{AreDefined}
 use Rattle.ir_tree.specs.declared.module.IrTree.{IrTree}
 use Rattle.ir_reader.specs.Reading.{IsReadAs}
 use Rattle.ir_resolve.specs.Programs.{resolved}
 
--- on every path through main each register is set before it is read
+-- on every path through each function each register is set before it is read
 abbrev pub IsDefined : ProgramData → Type 0
-IsDefined p = (main : Func) → func_at p p.main ≡ Some main → AreDefined main
+IsDefined p = All AreDefined p.funcs
 
 -- The bytes are the text of the program: they part into tokens, which the grammar derives from a tree; its names, numbers and types
 -- resolve to the program; and each register is set before it is read.

@@ -1,4 +1,2 @@
 pub mod Accepted
 pub mod Outcomes
-pub mod Report
-pub mod Words

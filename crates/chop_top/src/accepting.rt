@@ -37,15 +37,17 @@ fn has_none(alloc: Global, function: &Func) -> Result<bool, AllocError>
     }
 }
 
-// Whether each register of main is set before it is read.
+// Whether each register of each function is set before it is read.
 fn is_defined(alloc: Global, program: &Program) -> Result<bool, AllocError>
     ensures { IfOk result (λ is. Tells is (IsDefined program.now)) }
 {
-    let parts = program.parts();
-    match parts.funcs.get(parts.main.0 as usize) {
-        Some(main) => has_none(alloc, main),
-        None => Ok(true),
+    let funcs = program.parts().funcs.as_slice();
+    'functions: for function in funcs {
+        if !has_none(alloc, function)? {
+            return Ok(false);
+        }
     }
+    Ok(true)
 }
 
 /// The program of a text, if it is the text of one that is built.

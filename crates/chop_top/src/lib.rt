@@ -2,10 +2,7 @@
 #![tactic(auto)]
 
 mod accepting;
-mod options;
-mod report;
 mod top;
-mod words;
 
 pub use top::{Status, chop_main};
 

@@ -1,17 +1,21 @@
 //! The top call.
 ghost use Rattle.std.specs.Prelude.{◌≡◌, ◌<◌, ◌≤◌, ◌-◌, ◌^◌, None, map, length, string_bytes, codes, ◌++◌, ◌∷◌, [], IfOk};
-ghost use Rattle.chop_top.specs.Outcomes.{Reading, Outcome, IsComplete, Answered, Judged, Text, limit, IsReport, text_or_memory};
+ghost use Rattle.chop_words.specs.Words.{AreInRange};
+ghost use Rattle.chop_top.specs.Outcomes.{Reading, Outcome, IsComplete, Answered, Judged, Text, limit, IsReport, IsLine, text_or_memory};
 
 use crate::accepting::program_of;
-use crate::options::Options;
-use crate::report::report;
-use crate::words::{file_of, usage_line};
 use chop_outside::{Fault, Files, Gate, ReadError, Sink, read_whole, write_whole};
-use explorer::explore;
+use chop_words::{Command, Options, UsageError, read_words, usage_line};
+use decider::Plain;
+use explorer::{Limits, explore};
 use flat_ir::Program;
+use places::{Home, Opened};
+use report::report;
 use std::alloc::{AllocError, Global};
+use std::marker::Brand;
 use std::sync::Wait;
 use std::thread::Threads;
+use terms::{Shape, Terms};
 
 /// How a call ends.
 #[derive(Clone, Copy, Debug, PartialEq, Eq)]
@@ -26,17 +30,10 @@ pub enum Status {
 
 const LIMIT: usize = 16_777_216;
 
-const PLAIN: Options = Options {
-    input: 0,
-    steps: 100_000,
-    leaves: 10_000,
-    shares: 1_024,
-};
-
 // What is to be written, and under which status; or why nothing is.
 #[derive(Drop)]
 enum Answer {
-    Text { status: Status, text: String },
+    Text { status: Status, text: Vec<u8> },
     ReadFault,
     Memory,
 }
@@ -47,16 +44,38 @@ fn refusal(alloc: Global, name: &str) -> Result<String, AllocError>
     format!(in alloc; "refused {name}\n")
 }
 
-// The report of a program.
-fn report_of(alloc: Global, program: &Program) -> Result<String, AllocError>
-    ensures { IfOk result (λ written. IsReport program.now (string_bytes written)) }
+// The report of a program, whose terms have their places in a table of their own.
+fn report_in<H: Home>(
+    opened: Opened<Shape>,
+    alloc: Global,
+    program: &Program,
+    options: Options,
+) -> Result<Vec<u8>, AllocError>
+    requires book { opened.seen.book ≡ H.book }
+    requires range { AreInRange options }
+    ensures { IfOk result (λ written. IsReport program.now options written.items) }
 {
-    let leaf = explore(alloc, program, PLAIN.steps)?;
-    report(alloc, &PLAIN, &[leaf])
+    let terms = Terms::<H>::new(alloc, opened.named::<H>());
+    let limits = Limits {
+        inputs: options.input,
+        steps: options.steps,
+        budget: options.leaves,
+        shares: options.shares,
+    };
+    let leaves = explore(program, &terms, &Plain, limits)?;
+    report(alloc, program, &options, leaves.as_slice())
+}
+
+// The report of a program.
+fn report_of(alloc: Global, program: &Program, options: Options) -> Result<Vec<u8>, AllocError>
+    requires { AreInRange options }
+    ensures { IfOk result (λ written. IsReport program.now options written.items) }
+{
+    report_in::<Brand>(Opened::new(), alloc, program, options)
 }
 
 // A text to write, or nothing where memory ran out.
-fn text_or_memory(status: Status, written: Result<String, AllocError>) -> Answer
+fn text_or_memory(status: Status, written: Result<Vec<u8>, AllocError>) -> Answer
     ensures { result ≡ text_or_memory status written }
 {
     match written {
@@ -65,14 +84,28 @@ fn text_or_memory(status: Status, written: Result<String, AllocError>) -> Answer
     }
 }
 
+// A line to write, or nothing where memory ran out.
+fn line_or_memory(status: Status, written: Result<String, AllocError>) -> Answer
+    ensures { IsLine status written result }
+{
+    match written {
+        Ok(line) => Answer::Text {
+            status,
+            text: line.into_bytes(),
+        },
+        Err(_) => Answer::Memory,
+    }
+}
+
 // What the bytes of a file come to.
-fn judged(alloc: Global, bytes: &[u8]) -> Answer
-    requires { length bytes.now ≤ limit }
-    ensures { Judged result bytes.now }
+fn judged(alloc: Global, options: Options, bytes: &[u8]) -> Answer
+    requires short { length bytes.now ≤ limit }
+    requires range { AreInRange options }
+    ensures { Judged result options bytes.now }
 {
     match program_of(alloc, bytes) {
-        Ok(Some(program)) => text_or_memory(Status::Done, report_of(alloc, &program)),
-        Ok(None) => text_or_memory(Status::Refused, refusal(alloc, "NotBuilt")),
+        Ok(Some(program)) => text_or_memory(Status::Done, report_of(alloc, &program, options)),
+        Ok(None) => line_or_memory(Status::Refused, refusal(alloc, "NotBuilt")),
         Err(_) => Answer::Memory,
     }
 }
@@ -83,26 +116,27 @@ fn answer_to<F: Files>(alloc: Global, words: &[String], files: &mut F) -> Answer
     requires room { (F.state files.old).faults < 2 ^ 64 - 1 }
     ensures { Answered result (record { words = map string_bytes words.now; before = F.state files.old; after = F.state files.new }) }
 {
-    let Some(file) = file_of(words) else {
-        return text_or_memory(Status::Usage, usage_line(alloc, words));
+    let (options, file) = match read_words(words) {
+        Ok(Command::Explore { options, file }) => (options, file),
+        Err(UsageError::Usage { index }) => {
+            return line_or_memory(Status::Usage, usage_line(alloc, words, index));
+        }
+        Err(UsageError::Memory) => return Answer::Memory,
     };
-    let Ok(name) = file.clone() else {
-        return Answer::Memory;
-    };
-    match read_whole(alloc, files, name, LIMIT) {
-        Ok(bytes) => judged(alloc, bytes.as_slice()),
-        Err(ReadError::TooLarge) => text_or_memory(Status::Refused, refusal(alloc, "TooLarge")),
+    match read_whole(alloc, files, file, LIMIT) {
+        Ok(bytes) => judged(alloc, options, bytes.as_slice()),
+        Err(ReadError::TooLarge) => line_or_memory(Status::Refused, refusal(alloc, "TooLarge")),
         Err(ReadError::Fault) => Answer::ReadFault,
         Err(ReadError::Memory) => Answer::Memory,
     }
 }
 
 // Writes a text, whose status it then is.
-fn write_text<S: Sink>(sink: &mut S, status: Status, text: &str) -> Status
+fn write_text<S: Sink>(sink: &mut S, status: Status, text: &[u8]) -> Status
     requires { (S.state sink.old).faults < 2 ^ 64 - 1 }
     ensures { (r : Reading) → Text status r text.now → Outcome result r (S.state sink.old) (S.state sink.new) }
 {
-    match write_whole(sink, text.as_bytes()) {
+    match write_whole(sink, text) {
         Ok(()) => status,
         Err(Fault) => Status::WriteFault,
     }
@@ -125,7 +159,7 @@ pub fn chop_main<R: Threads + Wait + Sync, F: Files, S: Sink, G: Gate>(
     ensures complete { IsComplete result (record { words = map string_bytes words.now; before = F.state files.old; after = F.state files.new }) (S.state sink.old) (S.state sink.new) }
 {
     match answer_to(alloc, words, files) {
-        Answer::Text { status, text } => write_text(sink, status, text.as_str()),
+        Answer::Text { status, text } => write_text(sink, status, text.as_slice()),
         Answer::ReadFault => Status::ReadFault,
         Answer::Memory => Status::Memory,
     }

@@ -6,8 +6,14 @@ use chop_top::{Status, chop_main};
 use std::process::ExitCode;
 use std::{env, io};
 
-const HELP: &str = "chopper explore --input 0 FILE
-    explores the module in FILE, and prints a line for each state and one for their number
+const HELP: &str = "chopper explore [--input N] [--steps S] [--leaves B] [--shares A] FILE
+    explores the module in FILE over all inputs of N bytes, and prints a line for each
+    state and one for their number
+
+    N  bytes of input, 0 to 64 (4)
+    S  steps that a state may take, 1 to 1000000 (100000)
+    B  conflicts that a decision may meet, 1 to 1000000 (10000)
+    A  states that there may be, 1 to 100000 (1024)
 
 The exit status is 0 with a whole report, 2 where the words aren't these, 3 where FILE is
 refused, 4 where memory ran out, 5 where FILE couldn't be read, and 6 where the report
