@@ -1,0 +1,6 @@
+pub mod ReadLemmas
+pub mod OrderLemmas
+pub mod KeptOperations
+pub mod OnlyLemmas
+pub mod LogLemmas
+pub mod DecidedLemmas
