@@ -4,3 +4,5 @@ pub mod KeptOperations
 pub mod OnlyLemmas
 pub mod LogLemmas
 pub mod DecidedLemmas
+pub mod FoundLemmas
+pub mod AnswerLemmas

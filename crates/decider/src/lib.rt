@@ -9,7 +9,13 @@ ghost use Rattle.decider.specs.Decided.{decided};
 ghost use Rattle.decider.specs.Inputs.{IsAtMost, ReadsOnly};
 ghost use Rattle.decider.specs.declared.Verdict.TheVariants.{Sat, Unsat, Spent};
 
+mod found;
+mod plain;
+#[cfg(test)]
+mod tests;
+
 use places::Home;
+pub use plain::Plain;
 use plain_list::Sequence;
 use std::alloc::{AllocError, Global};
 use terms::Term;
@@ -42,23 +48,6 @@ pub trait Decide: Sync {
         requires inputs { inputs ≤ 64 }
         requires budget { 1 ≤ budget }
         ensures { IfOk result (λ verdict. verdict ≡ decided condition.now inputs budget) };
-}
-
-/// The decider that makes the clauses of each condition, searches them, and has each refutation
-/// checked before it answers.
-#[derive(Clone, Copy, Debug)]
-pub struct Plain;
-
-impl Decide for Plain {
-    fn decide<H: Home>(
-        &self,
-        alloc: Global,
-        condition: &[Term<H>],
-        inputs: u8,
-        budget: u64,
-    ) -> Result<Verdict, AllocError> {
-        Err(AllocError)
-    }
 }
 
 /// The input that is decided has `inputs` bytes, meets the condition, and is at most each other
