@@ -34,37 +34,70 @@ fn push_conjunct<H: Home>(all: &mut Sequence<Term<H>>, t: Term<H>) -> Result<(),
     Ok(())
 }
 
-/// The product of the two bytes is a number.
-fn product<H: Home>(terms: &Terms<H>, number: u64) -> Result<Sequence<Term<H>>, AllocError>
+/// That the product of the two bytes is a number.
+fn product<H: Home>(terms: &Terms<H>, number: u64) -> Result<Term<H>, AllocError>
+    requires { number < 65536 }
+    ensures conjunct { IfOk result (λ t. IsConjunct t) }
+    ensures reads { IfOk result (λ t. ReadsBelow 2 t) }
+{
+    let x = input_byte(terms, 0)?;
+    let y = input_byte(terms, 1)?;
+    let wide_x = zext_term(terms, &x, 16)?;
+    let wide_y = zext_term(terms, &y, 16)?;
+    let made = bin(terms, BinOp::Mul, &wide_x, &wide_y)?;
+    let other = constant(terms, Num::new(16, number))?;
+    let equal = eq(terms, &made, &other)?;
+    Ok(equal)
+}
+
+/// That the first byte leaves a rest by 97.
+fn rest<H: Home>(terms: &Terms<H>, number: u64) -> Result<Term<H>, AllocError>
+    requires { number < 256 }
+    ensures conjunct { IfOk result (λ t. IsConjunct t) }
+    ensures reads { IfOk result (λ t. ReadsBelow 2 t) }
+{
+    let x = input_byte(terms, 0)?;
+    let by = constant(terms, Num::new(8, 97))?;
+    let made = bin(terms, BinOp::Urem, &x, &by)?;
+    let other = constant(terms, Num::new(8, number))?;
+    let equal = eq(terms, &made, &other)?;
+    Ok(equal)
+}
+
+/// That the first byte isn't a number.
+fn unlike<H: Home>(terms: &Terms<H>, number: u64) -> Result<Term<H>, AllocError>
+    requires { number < 256 }
+    ensures conjunct { IfOk result (λ t. IsConjunct t) }
+    ensures reads { IfOk result (λ t. ReadsBelow 2 t) }
+{
+    let x = input_byte(terms, 0)?;
+    let other = constant(terms, Num::new(8, number))?;
+    let equal = eq(terms, &x, &other)?;
+    let differ = not(terms, &equal)?;
+    Ok(differ)
+}
+
+fn products<H: Home>(terms: &Terms<H>, number: u64) -> Result<Sequence<Term<H>>, AllocError>
     requires { number < 65536 }
     ensures all { IfOk result (λ all. All IsConjunct all) }
     ensures reads { IfOk result (λ all. All (ReadsBelow 2) all) }
 {
-    let x = zext_term(terms, &input_byte(terms, 0)?, 16)?;
-    let y = zext_term(terms, &input_byte(terms, 1)?, 16)?;
-    let made = bin(terms, BinOp::Mul, &x, &y)?;
-    let other = constant(terms, Num::new(16, number))?;
-    let equal = eq(terms, &made, &other)?;
+    let factors = product(terms, number)?;
     let mut all = Sequence::new(terms.alloc());
-    push_conjunct(&mut all, equal)?;
+    push_conjunct(&mut all, factors)?;
     Ok(all)
 }
 
-/// The first byte leaves a rest by 97, and isn't that rest.
-fn rest<H: Home>(terms: &Terms<H>, number: u64) -> Result<Sequence<Term<H>>, AllocError>
+fn rests<H: Home>(terms: &Terms<H>, number: u64) -> Result<Sequence<Term<H>>, AllocError>
     requires { number < 256 }
     ensures all { IfOk result (λ all. All IsConjunct all) }
     ensures reads { IfOk result (λ all. All (ReadsBelow 2) all) }
 {
-    let x = input_byte(terms, 0)?;
-    let by = constant(terms, Num::new(8, 97))?;
-    let left = bin(terms, BinOp::Urem, &x, &by)?;
-    let other = constant(terms, Num::new(8, number))?;
-    let equal = eq(terms, &left, &other)?;
-    let unlike = not(terms, &eq(terms, &x, &other)?)?;
+    let first = rest(terms, number)?;
+    let second = unlike(terms, number)?;
     let mut all = Sequence::new(terms.alloc());
-    push_conjunct(&mut all, equal)?;
-    push_conjunct(&mut all, unlike)?;
+    push_conjunct(&mut all, first)?;
+    push_conjunct(&mut all, second)?;
     Ok(all)
 }
 
@@ -73,8 +106,8 @@ fn condition<H: Home>(terms: &Terms<H>, asked: Asked) -> Result<Sequence<Term<H>
     ensures reads { IfOk result (λ all. All (ReadsBelow 2) all) }
 {
     match asked {
-        Asked::Product(number) => product(terms, number % 65536),
-        Asked::Rest(number) => rest(terms, number % 256),
+        Asked::Product(number) => products(terms, number % 65536),
+        Asked::Rest(number) => rests(terms, number % 256),
     }
 }
 
