@@ -3,9 +3,10 @@ use Rattle.std.proofs.Common.{ℕ, ◌<◌, [], ◌∷◌, All, refl, arith}
 use Rattle.std.proofs.lemmas.List.Elements.{All-cons}
 use Rattle.flat_ir.specs.declared.names.NodeId.{NodeId}
 use Rattle.flat_ir.specs.declared.names.RegId.{RegId}
+use Rattle.flat_ir.specs.declared.nodes.Node.{Node}
 use Rattle.flat_ir.specs.declared.nodes.RegType.TheVariants as type
 use Rattle.flat_ir.specs.Whole.{IsWhole, IsFuncOf, IsNodeOf, IsWidth, OperandIn}
-use Rattle.bench_explorer.specs.Counting.{number, count, less, counts, compares, turns, returns, counting_main, counting}
+use Rattle.bench_explorer.specs.Testing.{number, register, reads, tests, turns, counts, compares, repeats, returns, testing_main, testing}
 
 none : {A : Type 0} (P : A → Type 0) → All P []
 none P k d below = absurd (omega (arith, below))
@@ -17,42 +18,55 @@ two : {A : Type 0} (P : A → Type 0) (x y : A) → P x → P y → All P (x ∷
 two P x y h k = All-cons P x (y ∷ []) h (one P y k)
 
 abbrev RegIn : RegId → Type 0
-RegIn r = r.0 < 2
+RegIn r = r.0 < 4
 
 abbrev NodeIn : NodeId → Type 0
-NodeIn n = n.0 < 4
+NodeIn n = n.0 < 7
 
-add-in : IsNodeOf 0 1 2 4 counts
-add-in = record { operands = two (OperandIn 0 2) count (number 1) (omega arith) tt; results = one RegIn (record { 0 = 0 }) (omega arith); successors = one NodeIn (record { 0 = 1 }) (omega arith); names = tt }
+abbrev Stands : Node → Type 0
+Stands n = IsNodeOf 0 1 4 7 n
 
-less-in : (limit : ℕ) → IsNodeOf 0 1 2 4 (compares limit)
-less-in limit = record { operands = two (OperandIn 0 2) count (number limit) (omega arith) tt; results = one RegIn (record { 0 = 1 }) (omega arith); successors = one NodeIn (record { 0 = 2 }) (omega arith); names = tt }
+reads-in : Stands reads
+reads-in = record { operands = none (OperandIn 0 4); results = one RegIn (record { 0 = 0 }) (omega arith); successors = one NodeIn (record { 0 = 1 }) (omega arith); names = tt }
 
-branch-in : IsNodeOf 0 1 2 4 turns
-branch-in = record { operands = one (OperandIn 0 2) less (omega arith); results = none RegIn; successors = two NodeIn (record { 0 = 0 }) (record { 0 = 3 }) (omega arith) (omega arith); names = tt }
+tests-in : Stands tests
+tests-in = record { operands = two (OperandIn 0 4) (register 0) (number 97) (omega arith) tt; results = one RegIn (record { 0 = 1 }) (omega arith); successors = one NodeIn (record { 0 = 2 }) (omega arith); names = tt }
 
-return-in : IsNodeOf 0 1 2 4 returns
-return-in = record { operands = one (OperandIn 0 2) count (omega arith); results = none RegIn; successors = none NodeIn; names = tt }
+turns-in : Stands turns
+turns-in = record { operands = one (OperandIn 0 4) (register 1) (omega arith); results = none RegIn; successors = two NodeIn (record { 0 = 3 }) (record { 0 = 3 }) (omega arith) (omega arith); names = tt }
 
-main-whole : (limit : ℕ) → IsFuncOf 0 1 (counting_main limit)
-main-whole limit = record {
+counts-in : Stands counts
+counts-in = record { operands = two (OperandIn 0 4) (register 2) (number 1) (omega arith) tt; results = one RegIn (record { 0 = 2 }) (omega arith); successors = one NodeIn (record { 0 = 4 }) (omega arith); names = tt }
+
+compares-in : (count : ℕ) → Stands (compares count)
+compares-in count = record { operands = two (OperandIn 0 4) (register 2) (number count) (omega arith) tt; results = one RegIn (record { 0 = 3 }) (omega arith); successors = one NodeIn (record { 0 = 5 }) (omega arith); names = tt }
+
+repeats-in : Stands repeats
+repeats-in = record { operands = one (OperandIn 0 4) (register 3) (omega arith); results = none RegIn; successors = two NodeIn (record { 0 = 0 }) (record { 0 = 6 }) (omega arith) (omega arith); names = tt }
+
+returns-in : Stands returns
+returns-in = record { operands = one (OperandIn 0 4) (register 2) (omega arith); results = none RegIn; successors = none NodeIn; names = tt }
+
+main-whole : (count : ℕ) → IsFuncOf 0 1 (testing_main count)
+main-whole count = record {
   few_nodes = omega arith;
   few_regs = omega arith;
   nonempty = omega arith;
   named = refl;
   params = omega arith;
-  widths = two IsWidth (type.Int 32) (type.Int 1) (omega arith, omega arith) (omega arith, omega arith);
-  nodes = All-cons (IsNodeOf 0 1 2 4) counts (compares limit ∷ turns ∷ returns ∷ []) add-in (All-cons (IsNodeOf 0 1 2 4) (compares limit) (turns ∷ returns ∷ []) (less-in limit) (two (IsNodeOf 0 1 2 4) turns returns branch-in return-in));
+  widths = All-cons IsWidth (type.Int 32) (type.Int 1 ∷ type.Int 32 ∷ type.Int 1 ∷ []) (omega arith, omega arith) (All-cons IsWidth (type.Int 1) (type.Int 32 ∷ type.Int 1 ∷ []) (omega arith, omega arith) (two IsWidth (type.Int 32) (type.Int 1) (omega arith, omega arith) (omega arith, omega arith)));
+  nodes = All-cons Stands reads (tests ∷ turns ∷ counts ∷ compares count ∷ repeats ∷ returns ∷ []) reads-in (All-cons Stands tests (turns ∷ counts ∷ compares count ∷ repeats ∷ returns ∷ []) tests-in (All-cons Stands turns (counts ∷ compares count ∷ repeats ∷ returns ∷ []) turns-in
+    (All-cons Stands counts (compares count ∷ repeats ∷ returns ∷ []) counts-in (All-cons Stands (compares count) (repeats ∷ returns ∷ []) (compares-in count) (two Stands repeats returns repeats-in returns-in)))));
   clashes = none _;
   bad_edges = none _;
 }
 
-pub counting_is_whole : (limit : ℕ) → IsWhole (counting limit)
-counting_is_whole limit = record {
+pub testing_is_whole : (count : ℕ) → IsWhole (testing count)
+testing_is_whole count = record {
   few_globals = omega arith;
   few_funcs = omega arith;
   globals = none _;
-  funcs = one (IsFuncOf 0 1) (counting_main limit) (main-whole limit);
-  main = (counting_main limit, refl, record { params = refl; result = refl });
+  funcs = one (IsFuncOf 0 1) (testing_main count) (main-whole count);
+  main = (testing_main count, refl, record { params = refl; result = refl });
   defined = omega arith;
 }

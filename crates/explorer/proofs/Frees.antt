@@ -1,11 +1,11 @@
--- A frame's end writes nothing out.
+-- A frame's end writes nothing out, and reads nothing.
 use Rattle.std.proofs.Common.{◌≡◌, ℕ, zero, suc, ◌+◌, List, [], ◌∷◌, ◌++◌, reverse, slice_get, unwrap_or, refl}
 use Rattle.flat_ir.specs.declared.names.NodeId.{NodeId}
 use Rattle.std.proofs.lemmas.List.{reverse-append}
 use Rattle.flat_ir.specs.declared.nodes.Node.{Node}
 use Rattle.flat_ir.specs.declared.nodes.Node.TheVariants as node
 use Rattle.flat_ir.specs.declared.program.ProgramData.{ProgramData}
-use Rattle.flat_ir.specs.History.{Change, Write, Alloc, Free, Get, Put, History, output}
+use Rattle.flat_ir.specs.History.{Change, Write, Alloc, Free, Get, Put, History, output, position}
 use Rattle.flat_ir.specs.Machine.{Frame, State, nodes_of, func_at}
 use Rattle.flat_ir.specs.Steps.{frees_of_node, frees_at, frees_from, ended}
 
@@ -57,3 +57,16 @@ pub output-ended : (p : ProgramData) (s : State) → output (ended p s).history 
 output-ended p s =
     let frees = frees_from s.frame 0 (nodes_of (func_at p s.frame.func)) in
     output-free (reverse frees) s.history (reverse-free frees (from-free s.frame 0 (nodes_of (func_at p s.frame.func))))
+
+position-free : (xs : List Change) (h : History) → AllFree xs → position (xs ++ h) ≡ position h
+position-free [] h p = refl
+position-free (Free x ∷ xs) h p = position-free xs h p
+position-free (Write x k b ∷ xs) h p = absurd p
+position-free (Alloc x size ∷ xs) h p = absurd p
+position-free (Get ∷ xs) h p = absurd p
+position-free (Put b ∷ xs) h p = absurd p
+
+pub position-ended : (p : ProgramData) (s : State) → position (ended p s).history ≡ position s.history
+position-ended p s =
+    let frees = frees_from s.frame 0 (nodes_of (func_at p s.frame.func)) in
+    position-free (reverse frees) s.history (reverse-free frees (from-free s.frame 0 (nodes_of (func_at p s.frame.func))))

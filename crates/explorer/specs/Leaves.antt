@@ -1,39 +1,49 @@
 -- What the leaves of an exploration say.
-use Rattle.std.specs.Prelude.{◌≡◌, ℕ, List, [], map, true, All}
-use Rattle.flat_ir.specs.declared.nodes.RegType.{RegType}
-use Rattle.flat_ir.specs.declared.nodes.RegType.TheVariants as type
+use Rattle.std.specs.Prelude.{◌≡◌, ℕ, ◌≤◌, IsTrue, List, [], map, All, IfSome}
 use Rattle.flat_ir.specs.declared.program.ProgramData.{ProgramData}
-use Rattle.flat_ir.specs.Machine.{regs_of, func_at}
-use Rattle.flat_ir.specs.Sound.{Claim, Verdict, Completes, Opens, Splits, IsSound}
-use Rattle.explorer.specs.declared.exploring.Ending.{Ending}
-use Rattle.explorer.specs.declared.exploring.Ending.TheVariants.{Complete, Open}
-use Rattle.explorer.specs.Exploring.{Found, State, Explores, first_state}
+use Rattle.flat_ir.specs.Machine.{Event, Branched}
+use Rattle.flat_ir.specs.Sound as sound
+use Rattle.flat_ir.specs.Sound.{Claim, IsInput, Splits, IsSound}
+use Rattle.terms.specs.Tree.{Tree}
+use Rattle.terms.specs.Value.{value_of, are_met_by}
+use Rattle.explorer.specs.declared.states.Turn.{Turn}
+use Rattle.explorer.specs.declared.states.Limits.{Limits}
+use Rattle.explorer.specs.Fits.{IsLeast}
+use Rattle.explorer.specs.States.{Ending, Complete, Fault, Open, Found, Setting, Child}
+use Rattle.explorer.specs.Exploring.{Explores}
+use Rattle.explorer.specs.Views.{setting_of, AreLeaves}
 
-abbrev pub verdict_of : Ending → Verdict
-verdict_of (Complete status) = Completes status []
-verdict_of Open = Opens
+abbrev pub event_of : Turn → Event
+event_of turn = Branched turn.func turn.node turn.side
 
--- what a leaf says: its condition is empty, so each input meets it
+abbrev pub verdict_under : Ending → List ℕ → sound.Verdict
+verdict_under (Complete status) input = sound.Completes (value_of status input).bits []
+verdict_under (Fault kind func n) input = sound.Faults kind func n []
+verdict_under (Open cause) input = sound.Opens
+
+-- what a leaf says of each input
 abbrev pub claim_of : Found → Claim
-claim_of leaf = record { is_met = λ input. true; path = λ input results. leaf.path; verdict = λ input. verdict_of leaf.ending }
+claim_of leaf = record {
+  is_met = λ input. are_met_by input leaf.condition;
+  path = λ input results. map event_of leaf.path;
+  verdict = verdict_under leaf.ending;
+}
 
--- the leaves split the inputs, and each is sound
-pub record AreRight (p : ProgramData) (inputs : ℕ) (leaves : List Found) : Type 0 where
-  pub split : Splits inputs (map claim_of leaves)
-  pub sound : All (IsSound p [] inputs) (map claim_of leaves)
+-- a leaf's kept input, where it has one, is the least that meets its condition
+abbrev pub KeepsLeast : ℕ → Found → Type 0
+KeepsLeast n leaf = IfSome leaf.kept (λ kept. IsLeast n leaf.condition kept)
 
-abbrev pub IsNumberType : RegType → Type 0
-IsNumberType (type.Int width) = Unit {0}
-IsNumberType type.Ptr = ⊥
+-- the leaves split the inputs, each is sound, and what each keeps is the least input that meets its condition
+pub record AreRight (c : Setting) (leaves : List Found) : Type 0 where
+  pub split : Splits c.inputs (map claim_of leaves)
+  pub sound : All (IsSound c.program [] c.inputs) (map claim_of leaves)
+  pub least : All (KeepsLeast c.inputs) leaves
 
--- main's registers are numbers
-abbrev pub HasNumbers : ProgramData → Type 0
-HasNumbers p = All IsNumberType (regs_of (func_at p p.main))
-
--- Exploring a program whose registers are numbers gives leaves that split the inputs and are sound.
+-- Verdicts that are decided are right, and so are the leaves of a program over at most 64 bytes of input.
 abbrev pub IsRight : Type 0
-IsRight = (p : ProgramData) (steps inputs tasks : ℕ) (leaves : List Found) → HasNumbers p → Explores p (first_state p steps) leaves tasks → AreRight p inputs leaves
+IsRight = (p : ProgramData) (limits : Limits) (leaves : List Found) → limits.inputs ≤ 64 → AreLeaves p limits leaves → AreRight (setting_of p limits) leaves
 
--- There is one list of leaves and one number of tasks.
+-- From a list of children there is one list of leaves, and one number of tasks.
 abbrev pub HasOneResult : Type 0
-HasOneResult = (p : ProgramData) (s : State) (leaves others : List Found) (tasks count : ℕ) → Explores p s leaves tasks → Explores p s others count → (leaves ≡ others) × (tasks ≡ count)
+HasOneResult = (c : Setting) (children : List Child) (leaves others : List Found) (tasks count : ℕ)
+    → Explores c children leaves tasks → Explores c children others count → (leaves ≡ others) × (tasks ≡ count)

@@ -1,3 +1,11 @@
+pub mod States
+pub mod Values
+pub mod Plans
+pub mod Sides
 pub mod Exploring
-pub mod Leads
 pub mod Leaves
+pub mod Fits
+pub mod Views
+pub mod Calls
+pub mod Offers
+pub mod Turns

@@ -1,181 +1,153 @@
 //! The exploration.
-ghost use Rattle.std.specs.Prelude.{◌≡◌, ◌==◌, if◌then◌else◌, map, IfOk, All};
-ghost use Rattle.flat_ir.specs.declared.program.ProgramData.{ProgramData};
-ghost use Rattle.flat_ir.specs.Machine.{nodes_of as spec_nodes, regs_of as spec_regs, func_at};
-ghost use Rattle.flat_ir.specs.Whole.{IsWidth};
-ghost use Rattle.explorer.specs.Exploring as spec;
-ghost use Rattle.explorer.specs.Exploring.{State, zero_number};
-ghost use Rattle.explorer.specs.Leads.{Leads, Gives};
+ghost use Rattle.std.specs.Prelude.{◌≡◌, ◌≤◌, [], ◌∷◌, ◌++◌, List, map, IfOk, OnOk, MatchOption};
+ghost use Rattle.explorer.specs.States as states;
+ghost use Rattle.explorer.specs.Exploring.{zeros, first_state};
+ghost use Rattle.explorer.specs.Fits.{StateFits, ChildFits, ChildrenFit, LeavesFit};
+ghost use Rattle.explorer.specs.Turns.{waiting_seen, Turned};
+ghost use Rattle.explorer.specs.Views.{state_seen, child_seen, leaf_seen, setting_of, AreLeaves};
 
-use crate::steps::{combined, compared, number_of, returned, set};
-use bitnum::Num;
-use flat_ir::{Node, NodeId, Program, RegId, RegType};
+use crate::moments::entered;
+use crate::sides::Machine;
+use crate::states::{Answer, Child, Leaf, Limits, Moment, State};
+use decider::Decide;
+use flat_ir::Program;
+use places::Home;
+use plain_list::Sequence;
 use std::alloc::{AllocError, Global};
+use term_store::Conditions;
+use terms::Terms;
 
-/// How a leaf ends: main returned with this low byte, or no step was left.
-#[derive(Clone, Copy, Debug, PartialEq, Eq)]
-pub enum Ending {
-    Complete(u8),
-    Open,
-}
-
-/// A leaf of an exploration, and the steps that it left.
-#[derive(Clone, Copy, Debug, PartialEq, Eq)]
-pub struct Leaf {
-    pub ending: Ending,
-    pub left: u64,
-}
-
-// Where an attempt leads.
-#[derive(Clone, Copy)]
-enum Led {
-    To(NodeId),
-    Ended(Ending),
-}
-
-// Sets a register to a number, if there is one, and goes on.
-fn sets(regs: &mut Vec<Num>, register: RegId, next: NodeId, number: Option<Num>) -> Led
-    ensures { (s : State) → s.regs ≡ regs.old.items → Leads (spec.sets register next number s) s result regs.new.items }
+fn zeros(alloc: Global, count: u8) -> Result<Sequence<u8>, AllocError>
+    ensures { IfOk result (λ bytes. bytes ≡ zeros count) }
 {
-    match number {
-        Some(number) => {
-            set(regs, register, number);
-            Led::To(next)
-        }
-        None => Led::Ended(Ending::Open),
+    let mut bytes = Sequence::new(alloc);
+    'bytes: for _ in 0..count {
+        bytes.push(0)?;
     }
+    Ok(bytes)
 }
 
-// The side that a bit chooses.
-fn side(bit: Num, first: NodeId, second: NodeId) -> NodeId
-    ensures { result ≡ (if bit.bits == 1 then first else second) }
+// The children stand in front of those that wait.
+fn put_back<H: Home>(
+    waiting: &mut Vec<Child<H>>,
+    mut children: Vec<Child<H>>,
+) -> Result<(), AllocError>
+    ensures { OnOk result (waiting_seen waiting.new.items ≡ map child_seen children.items ++ waiting_seen waiting.old.items) }
 {
-    if bit.bits() == 1 { first } else { second }
-}
-
-// Takes the side that a condition chooses.
-fn branches(condition: Option<Num>, first: NodeId, second: NodeId) -> Led
-    ensures { (p : ProgramData) (s : State) → Leads (spec.branches p first second condition s) s result s.regs }
-{
-    match condition {
-        Some(bit) => Led::To(side(bit, first, second)),
-        None => Led::Ended(Ending::Open),
+    'put: while let Some(child) = children.pop() {
+        waiting.push(child)?;
     }
+    Ok(())
 }
 
-// Ends main.
-fn returns(value: Option<Num>) -> Led
-    ensures { (s : State) → Leads (spec.returns value s) s result s.regs }
-{
-    match value {
-        Some(number) => Led::Ended(Ending::Complete((number.bits() % 256) as u8)),
-        None => Led::Ended(Ending::Open),
+impl<'a, H: Home, D: Decide> Machine<'a, H, D> {
+    // The state at main's entry.
+    fn first(&self) -> Result<State<H>, AllocError>
+        ensures { IfOk result (λ s. state_seen s ≡ first_state (setting_of self.now.program.now self.now.limits) self.now.limits.steps self.now.limits.shares) }
+    {
+        let alloc = self.terms.alloc();
+        let moment = Moment {
+            frame: entered(self.program, self.terms, self.program.main, Sequence::new(alloc))?,
+            callers: Sequence::new(alloc),
+            position: 0,
+            path: Sequence::new(alloc),
+        };
+        Ok(State {
+            moment,
+            condition: Conditions::new(alloc),
+            kept: zeros(alloc, self.limits.inputs)?,
+            left: self.limits.steps,
+            shares: self.limits.shares,
+        })
     }
-}
 
-// Executes a node.
-fn execute(node: &Node, regs: &mut Vec<Num>) -> Led
-    ensures { (p : ProgramData) (s : State) → s.regs ≡ regs.old.items → Leads (spec.executed p node.now s) s result regs.new.items }
-{
-    match node {
-        Node::Bin {
-            op,
-            a,
-            b,
-            result,
-            next,
-        } => {
-            let number = combined(*op, number_of(regs, a), number_of(regs, b));
-            sets(regs, *result, *next, number)
-        }
-        Node::Cmp {
-            pred,
-            a,
-            b,
-            result,
-            next,
-        } => {
-            let number = compared(*pred, number_of(regs, a), number_of(regs, b));
-            sets(regs, *result, *next, number)
-        }
-        Node::Jump { next } => Led::To(*next),
-        Node::Branch { condition, yes, no } => branches(number_of(regs, condition), *yes, *no),
-        Node::Ret { value } => returns(returned(regs, value)),
-        _ => Led::Ended(Ending::Open),
-    }
-}
-
-fn nodes_of(program: &Program) -> &[Node]
-    ensures { result.now ≡ spec_nodes (func_at program.now program.now.main) }
-{
-    let parts = program.parts();
-    match parts.funcs.get(parts.main.0 as usize) {
-        Some(main) => main.nodes.as_slice(),
-        None => &[],
-    }
-}
-
-fn types_of(program: &Program) -> &[RegType]
-    ensures value { result.now ≡ spec_regs (func_at program.now program.now.main) }
-    ensures widths { All IsWidth result.now }
-{
-    let parts = program.parts();
-    match parts.funcs.get(parts.main.0 as usize) {
-        Some(main) => main.regs.as_slice(),
-        None => &[],
-    }
-}
-
-fn zero_number(kind: RegType) -> Num
-    requires { IsWidth kind }
-    ensures { result ≡ spec.zero_number kind }
-{
-    match kind {
-        RegType::Int(width) => Num::new(width, 0),
-        RegType::Ptr => Num::new(64, 0),
-    }
-}
-
-// What registers hold at the entry.
-fn zeros(alloc: Global, types: &[RegType]) -> Result<Vec<Num>, AllocError>
-    requires { All IsWidth types.now }
-    ensures { IfOk result (λ regs. regs.items ≡ map zero_number types.now) }
-{
-    let mut regs = Vec::with_capacity(alloc, types.len())?;
-    'types: for kind in types {
-        regs.push(zero_number(*kind))?;
-    }
-    Ok(regs)
-}
-
-// Executes the node with a number; one that isn't there is `unreachable`.
-fn attempt(nodes: &[Node], at: NodeId, regs: &mut Vec<Num>) -> Led
-    ensures { (p : ProgramData) (s : State) → s.regs ≡ regs.old.items → Leads (spec.executed p (spec.node_in nodes.now at) s) s result regs.new.items }
-{
-    match nodes.get(at.0 as usize) {
-        Some(node) => execute(node, regs),
-        None => Led::Ended(Ending::Open),
-    }
-}
-
-/// The one leaf of a program, within so many steps. Memory is taken for main's registers alone, whatever the steps.
-pub fn explore(alloc: Global, program: &Program, steps: u64) -> Result<Leaf, AllocError>
-    ensures { IfOk result (λ leaf. Gives program.now steps leaf) }
-{
-    let nodes = nodes_of(program);
-    let mut regs = zeros(alloc, types_of(program))?;
-    let mut at = NodeId(0);
-    'steps: for done in 0..steps {
-        match attempt(nodes, at, &mut regs) {
-            Led::To(next) => at = next,
-            Led::Ended(ending) => {
-                let left = steps - done - 1;
-                return Ok(Leaf { ending, left });
-            }
+    // One attempt of the state in front.
+    fn turn(
+        &self,
+        state: State<H>,
+        waiting: &mut Vec<Child<H>>,
+        leaves: &mut Vec<Leaf<H>>,
+    ) -> Result<(), AllocError>
+        requires inputs { self.now.limits.inputs ≤ 64 }
+        requires budget { 1 ≤ self.now.limits.budget }
+        requires fits { StateFits self.now.limits.inputs (state_seen state) }
+        requires others { ChildrenFit self.now.limits.inputs (waiting_seen waiting.old.items) }
+        ensures { OnOk result ((fresh : List states.Found) × (map leaf_seen leaves.new.items ≡ map leaf_seen leaves.old.items ++ fresh) × Turned (setting_of self.now.program.now self.now.limits) (states.Child.Go (state_seen state) ∷ waiting_seen waiting.old.items) (waiting_seen waiting.new.items) fresh) }
+    {
+        match self.attempt(state)? {
+            Answer::Goes(next) => wait(waiting, next),
+            Answer::Ends(leaf) => keep(leaves, leaf),
+            Answer::Forks(children) => put_back(waiting, children),
         }
     }
-    Ok(Leaf {
-        ending: Ending::Open,
-        left: 0,
-    })
+
+    // What the child in front comes to.
+    fn task(
+        &self,
+        child: Child<H>,
+        waiting: &mut Vec<Child<H>>,
+        leaves: &mut Vec<Leaf<H>>,
+    ) -> Result<(), AllocError>
+        requires inputs { self.now.limits.inputs ≤ 64 }
+        requires budget { 1 ≤ self.now.limits.budget }
+        requires fits { ChildFits self.now.limits.inputs (child_seen child) }
+        requires others { ChildrenFit self.now.limits.inputs (waiting_seen waiting.old.items) }
+        ensures { OnOk result ((fresh : List states.Found) × (map leaf_seen leaves.new.items ≡ map leaf_seen leaves.old.items ++ fresh) × Turned (setting_of self.now.program.now self.now.limits) (child_seen child ∷ waiting_seen waiting.old.items) (waiting_seen waiting.new.items) fresh) }
+    {
+        match child {
+            Child::Go(state) => self.turn(state, waiting, leaves),
+            Child::Stop(leaf) => keep(leaves, leaf),
+        }
+    }
+}
+
+fn wait<H: Home>(waiting: &mut Vec<Child<H>>, state: State<H>) -> Result<(), AllocError>
+    ensures { OnOk result (waiting_seen waiting.new.items ≡ states.Child.Go (state_seen state) ∷ waiting_seen waiting.old.items) }
+{
+    waiting.push(Child::Go(state))?;
+    Ok(())
+}
+
+fn keep<H: Home>(leaves: &mut Vec<Leaf<H>>, leaf: Leaf<H>) -> Result<(), AllocError>
+    ensures { OnOk result (map leaf_seen leaves.new.items ≡ map leaf_seen leaves.old.items ++ leaf_seen leaf ∷ []) }
+{
+    leaves.push(leaf)?;
+    Ok(())
+}
+
+fn next<H: Home>(waiting: &mut Vec<Child<H>>) -> Option<Child<H>>
+    ensures { MatchOption result (waiting_seen waiting.old.items ≡ []) (λ child. waiting_seen waiting.old.items ≡ child_seen child ∷ waiting_seen waiting.new.items) }
+{
+    waiting.pop()
+}
+
+/// The leaves of a program, in the order of its tree: the children of a fork in the order of their sides. Each leaf has its
+/// condition, the least input that meets it, the sides that were taken, how it ends, and the steps left.
+pub fn explore<H: Home, D: Decide>(
+    program: &Program,
+    terms: &Terms<H>,
+    decide: &D,
+    limits: Limits,
+) -> Result<Vec<Leaf<H>>, AllocError>
+    requires inputs { limits.inputs ≤ 64 }
+    requires budget { 1 ≤ limits.budget }
+    ensures leaves { IfOk result (λ leaves. AreLeaves program.now limits (map leaf_seen leaves.items)) }
+    ensures fits { IfOk result (λ leaves. LeavesFit limits.inputs (map leaf_seen leaves.items)) }
+{
+    let machine = Machine {
+        program: program.parts(),
+        terms,
+        decide,
+        limits,
+    };
+    let mut leaves = Vec::new(terms.alloc());
+    let mut waiting = Vec::new(terms.alloc());
+    wait(&mut waiting, machine.first()?)?;
+    'tasks: for _ in 0..u64::MAX {
+        match next(&mut waiting) {
+            None => return Ok(leaves),
+            Some(child) => machine.task(child, &mut waiting, &mut leaves)?,
+        }
+    }
+    Err(AllocError)
 }

@@ -1,7 +1,8 @@
 //! What holds of every exploration.
 ghost use Rattle.explorer.specs.Leaves.{IsRight, HasOneResult};
 
-/// Each list of leaves that exploring gives splits the inputs, and each leaf is sound.
+/// The leaves of a program over at most 64 bytes of input split the inputs, each is sound, and what each keeps is the least input that meets its
+/// condition.
 pub fn leaves_are_right()
     ensures { IsRight }
 {}

@@ -1,9 +1,14 @@
-//! The exploration of a program of one function whose registers are numbers: one state, one leaf.
+//! The exploration of programs over input bytes: states with terms and conditions, which fork at branches and tests.
 #![tactic(auto)]
 
+mod attempts;
 mod exploring;
 mod laws;
-mod steps;
+mod moments;
+mod sides;
+mod states;
+mod values;
 
-pub use exploring::{Ending, Leaf, explore};
+pub use exploring::explore;
 pub use laws::{exploring_has_one_result, leaves_are_right};
+pub use states::{Cause, Ending, Leaf, Limits, Turn};

@@ -1,6 +1,6 @@
-use Rattle.std.proofs.Common.{◌≡◌, map, take}
-use Rattle.explorer.specs.Exploring.{zero_number}
+use Rattle.std.proofs.Common.{◌≡◌}
+use Rattle.explorer.specs.Exploring.{zeros}
 use Rattle.explorer.proofs.exploring.zeros.Given as goal
 
-abbrev pub invariant-types : goal.invariant-types
-invariant-types l = l.regs.items ≡ map zero_number (take l.kind-index l.types)
+abbrev pub invariant-bytes : goal.invariant-bytes
+invariant-bytes l = l.bytes ≡ zeros l.counter
