@@ -3,9 +3,7 @@ use Rattle.std.proofs.Common.{◌≡◌, ℕ, ◌<◌, ◌≤◌, List, [], ◌�
 use Rattle.std.specs.declared.alloc.Global.{Global}
 use Rattle.std.specs.declared.alloc.AllocError.{AllocError}
 use Rattle.flat_ir.specs.declared.program.ProgramData.{ProgramData}
-use Rattle.explorer.specs.Views.{setting_of}
--- use Rattle.explorer.proofs.Right.{are-right}
--- use Rattle.chop_top.proofs.Verdicts.{right_verdicts}
+use Rattle.explorer.proofs.Right.{decided-leaves-right}
 use Rattle.chop_words.specs.declared.options.Options.{Options}
 use Rattle.chop_words.specs.Words.{Explored, wanted, AreInRange}
 use Rattle.chop_outside.specs.Reading.{Named, Holds, contents_of}
@@ -23,7 +21,7 @@ judged-report bytes o p (Ok w) answer range reads report is = subst (λ a. Judge
   reads = reads;
   leaves = report.0;
   explores = report.1;
-  right = ?;
+  right = decided-leaves-right p (limits_of o) report.0 range.input report.1;
   report = report.2;
 })
 judged-report bytes o p (Err e) answer range reads report is = subst (λ a. Judged a o bytes) (sym is) tt

@@ -1,6 +1,7 @@
 -- What the code finds out of the bytes of a file, in the words of the definitions.
-use Rattle.std.proofs.Common.{◌≡◌, ℕ, suc, ◌+◌, ◌<◌, length, drop, drop-cons, get_or, All, arith, Bool, true, false, List, Option, Some, None, sym, ◌∙◌, subst}
+use Rattle.std.proofs.Common.{◌≡◌, ℕ, suc, ◌+◌, ◌<◌, ◌≤◌, [], ap, length, drop, drop-cons, get_or, All, arith, Bool, true, false, List, Option, Some, None, sym, ◌∙◌, subst}
 use Rattle.std.proofs.lemmas.Option.{none-some}
+use Rattle.std.proofs.lemmas.List.{drop_all}
 use Rattle.std.proofs.lemmas.List.Elements.{All-cons}
 use Rattle.flat_ir.specs.declared.program.Func.{Func}
 use Rattle.flat_ir.specs.declared.program.ProgramData.{ProgramData}
@@ -17,13 +18,30 @@ some-same x y same = cc
 
 -- ---- functions
 
--- each function of a program names nothing but its own
-pub each_is_named : (p : ProgramData) (k : ℕ) (d : Func) → IsWhole p → k < length p.funcs → IsNamed (get_or p.funcs k d)
-each_is_named p k d whole within = func_is_named _ _ (get_or p.funcs k d) (whole.funcs k d within)
+-- a function at a place of a program names nothing but its own
+pub each_is_named : (p parts : ProgramData) (funcs : List Func) (k : ℕ) (f : Func) → IsWhole p → parts ≡ p → funcs ≡ parts.funcs → k < length funcs → f ≡ get_or funcs k f → IsNamed f
+each_is_named p parts funcs k f whole same these within is =
+    let all : funcs ≡ p.funcs = these ∙ ap (λ q. q.funcs) same in
+    let at : f ≡ get_or p.funcs k f = is ∙ ap (λ fs. get_or fs k f) all in
+    func_is_named _ _ f (subst (IsFuncOf (length p.globals) (length p.funcs)) (sym at) (whole.funcs k f (subst (λ fs. k < length fs) all within)))
 
--- the functions from a place on, if all of them are defined, are all there are
-pub from_here : (funcs : List Func) (k : ℕ) (d : Func) → k < length funcs → AreDefined (get_or funcs k d) → (All AreDefined (drop k funcs) → All AreDefined funcs) → All AreDefined (drop (k + 1) funcs) → All AreDefined funcs
-from_here funcs k d within one before rest = before (subst (All AreDefined) (sym (drop-cons funcs k d within)) (All-cons AreDefined (get_or funcs k d) (drop (suc k) funcs) one (subst (λ n. All AreDefined (drop n funcs)) (omega arith) rest)))
+-- if the functions from a place on are defined, all are; so it is from the next place on, where the one there is defined
+pub from_here : (funcs : List Func) (k : ℕ) (f : Func) → k < length funcs → f ≡ get_or funcs k f → AreDefined f → (All AreDefined (drop k funcs) → All AreDefined funcs) → All AreDefined (drop (k + 1) funcs) → All AreDefined funcs
+from_here funcs k f within is one before rest =
+    let next : suc k ≡ k + 1 = omega arith in
+    let tail : All AreDefined (drop (suc k) funcs) = subst (λ n. All AreDefined (drop n funcs)) (sym next) rest in
+    before (subst (All AreDefined) (sym (drop-cons funcs k f within)) (All-cons AreDefined (get_or funcs k f) (drop (suc k) funcs) (subst AreDefined is one) tail))
+
+-- one that isn't defined is among them
+pub not_all : (p parts : ProgramData) (funcs : List Func) (k : ℕ) (f : Func) → parts ≡ p → funcs ≡ parts.funcs → k < length funcs → f ≡ get_or funcs k f → (AreDefined f → ⊥) → IsDefined p → ⊥
+not_all p parts funcs k f same these within is undefined defined =
+    let all : funcs ≡ p.funcs = these ∙ ap (λ q. q.funcs) same in
+    undefined (subst AreDefined (sym (is ∙ ap (λ fs. get_or fs k f) all)) (defined k f (subst (λ fs. k < length fs) all within)))
+
+-- past the last function all are defined
+pub all_defined : (p parts : ProgramData) (funcs : List Func) (k : ℕ) → parts ≡ p → funcs ≡ parts.funcs → length funcs ≤ k → (All AreDefined (drop k funcs) → All AreDefined funcs) → IsDefined p
+all_defined p parts funcs k same these past all =
+    subst (All AreDefined) (these ∙ ap (λ q. q.funcs) same) (all (subst (All AreDefined) (sym (drop_all k funcs past)) (λ j d below. absurd (omega (arith, below)))))
 
 -- ---- programs
 
