@@ -1,0 +1,5 @@
+pub mod Types
+pub mod Typed
+pub mod Errors
+pub mod Steps
+pub mod Laws
