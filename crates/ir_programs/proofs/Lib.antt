@@ -1,0 +1,6 @@
+pub mod Told
+pub mod Counting
+pub mod Repeating
+mod SmallTrees
+mod Examples
+mod ExamplesOfConstants

@@ -1,0 +1,18 @@
+//! Which program the tree of a module stands for, and where a tree has none. The definitions stand in `specs/`.
+#![tactic(auto)]
+
+mod integers;
+mod locals;
+mod numbers;
+mod refusals;
+mod registers;
+mod repeats;
+#[cfg(test)]
+mod tests;
+
+pub use integers::fits_width;
+pub use locals::{Local, locals_of, register_type, result_type};
+pub use numbers::numbers_told;
+pub use refusals::{Cause, Refusal, answers_are_one, earlier};
+pub use registers::{register_names, register_types};
+pub use repeats::repeats_told;
