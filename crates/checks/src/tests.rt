@@ -1,53 +1,50 @@
-//! Main that adds numbers of different widths.
-ghost use Rattle.std.specs.Prelude.{IfOk};
-ghost use Rattle.flat_ir.specs.Whole.{IsWhole};
+//! Main that returns a number of another width.
+ghost use Rattle.std.specs.Prelude.{◌≡◌, IfOk};
+ghost use Rattle.checks.specs.Sample.{sample, sample_main};
 
 use crate::check;
-use bitnum::{BinOp, Num};
-use flat_ir::{
-    CheckError, Func, FuncId, Node, NodeId, Operand, Program, ProgramData, RegId, RegType,
-};
+use bitnum::Num;
+use flat_ir::{CheckError, Func, FuncId, Node, NodeId, Operand, Program, ProgramData, RegType};
 use plain_list::Sequence;
 use std::alloc::{AllocError, Global};
 
-fn main_of(alloc: Global) -> Result<Func, AllocError> {
-    let mut nodes = Sequence::of_one(
-        alloc,
-        Node::Bin {
-            op: BinOp::Add,
-            a: Operand::Int(Num::new(32, 1)),
-            b: Operand::Int(Num::new(8, 1)),
-            result: RegId(0),
-            next: NodeId(1),
-        },
-    )?;
-    nodes.push(Node::Unreachable)?;
+fn the_main(alloc: Global) -> Result<Func, AllocError>
+    ensures { IfOk result (λ f. f ≡ sample_main) }
+{
+    let node = Node::Ret {
+        value: Some(Operand::Int(Num::new(8, 0))),
+    };
     Ok(Func {
-        name: Sequence::from_slice(alloc, b"main")?,
+        name: Sequence::new(alloc),
         params: 0,
-        regs: Sequence::of_one(alloc, RegType::Int(32))?,
-        reg_names: Sequence::of_one(alloc, Sequence::new(alloc))?,
+        regs: Sequence::new(alloc),
+        reg_names: Sequence::new(alloc),
         result: Some(RegType::Int(32)),
-        nodes,
+        nodes: Sequence::of_one(alloc, node)?,
         clashes: Sequence::new(alloc),
         bad_edges: Sequence::new(alloc),
     })
 }
 
-fn program_of(alloc: Global) -> Result<ProgramData, AllocError>
-    ensures { IfOk result IsWhole }
+fn the_parts(alloc: Global) -> Result<ProgramData, AllocError>
+    ensures { IfOk result (λ p. p ≡ sample) }
 {
     Ok(ProgramData {
         globals: Sequence::new(alloc),
-        funcs: Sequence::of_one(alloc, main_of(alloc)?)?,
+        funcs: Sequence::of_one(alloc, the_main(alloc)?)?,
         main: FuncId(0),
         defined: 1,
     })
 }
 
+#[tactic(auto, using(crate::proofs::Samples::sample_is_whole))]
+fn the_program(alloc: Global) -> Result<Program, AllocError> {
+    Program::new(alloc, the_parts(alloc)?)
+}
+
 #[test]
 fn widths_that_differ_are_found(rt: HostRuntime) -> Result<(), AllocError> {
-    let program = Program::new(rt.alloc(), program_of(rt.alloc())?)?;
+    let program = the_program(rt.alloc())?;
     let found = check(rt.alloc(), &program)?;
     let function = FuncId(0);
     let node = NodeId(0);

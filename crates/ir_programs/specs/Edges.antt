@@ -11,7 +11,7 @@ use Rattle.ir_tree.specs.declared.instructions.Phi.{Phi}
 use Rattle.ir_tree.specs.declared.module.FunctionDefinition.{FunctionDefinition}
 use Rattle.ir_programs.specs.Texts.{among, same_all, texts}
 use Rattle.ir_programs.specs.Parts.{targets, phi_labels}
-use Rattle.ir_programs.specs.Flow.{label_of}
+use Rattle.ir_programs.specs.Locals.{label_of}
 use Rattle.ir_programs.specs.Fits.{where_false}
 
 -- the labels of the blocks that lead to a block

@@ -10,14 +10,11 @@ use Rattle.ir_tree.specs.declared.instructions.Block.{Block}
 use Rattle.ir_tree.specs.declared.instructions.Incoming.{Incoming}
 use Rattle.ir_tree.specs.declared.instructions.Phi.{Phi}
 use Rattle.ir_tree.specs.declared.module.FunctionDefinition.{FunctionDefinition}
-use Rattle.ir_programs.specs.Texts.{name_or_none}
+use Rattle.ir_programs.specs.Locals.{label_of}
 use Rattle.ir_programs.specs.Parts.{targets}
 
 abbrev pub at : ℕ → NodeId
 at n = record { 0 = n }
-
-abbrev pub label_of : Block → List ℕ
-label_of b = (name_or_none b.label).text
 
 -- ---- blocks
 

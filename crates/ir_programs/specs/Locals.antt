@@ -85,8 +85,11 @@ abbrev pub register_names : FunctionDefinition → List (List ℕ)
 register_names f = names_among (locals_of f)
 
 -- the names of its blocks
+abbrev pub label_of : Block → List ℕ
+label_of b = (name_or_none b.label).text
+
 abbrev pub labels_of : FunctionDefinition → List (List ℕ)
-labels_of f = map (λ b. (name_or_none b.label).text) f.blocks
+labels_of f = map label_of f.blocks
 
 -- ---- numbers
 

@@ -19,6 +19,9 @@ use Rattle.ir_tree.specs.declared.instructions.Phi.{Phi}
 use Rattle.ir_tree.specs.declared.instructions.TerminatorForm.{TerminatorForm}
 use Rattle.ir_tree.specs.declared.instructions.TerminatorForm.TheVariants as terminators
 use Rattle.ir_tree.specs.declared.instructions.Block.{Block}
+use Rattle.ir_tree.specs.declared.instructions.Case.{Case}
+use Rattle.ir_tree.specs.declared.instructions.Incoming.{Incoming}
+use Rattle.ir_tree.specs.declared.instructions.Instruction.{Instruction}
 use Rattle.ir_tree.specs.declared.module.FunctionDefinition.{FunctionDefinition}
 use Rattle.ir_tree.specs.declared.module.IrTree.{IrTree}
 
@@ -88,26 +91,41 @@ module_values t = flat_map (λ g. constant_values g.value) t.globals ++ flat_map
 
 -- ---- labels and called names
 
+abbrev pub case_label : Case → Name
+case_label c = c.label
+
+abbrev pub incoming_label : Incoming → Name
+incoming_label i = i.label
+
 -- where a terminator leads, in the order of its successors: the cases of a switch before its default
 abbrev pub targets : TerminatorForm → List Name
 targets (terminators.Return value) = []
 targets (terminators.Jump to) = to ∷ []
 targets (terminators.Branch condition if_true if_false) = if_true ∷ if_false ∷ []
-targets (terminators.Switch width value default cases) = map (λ c. c.label) cases ++ default ∷ []
+targets (terminators.Switch width value default cases) = map case_label cases ++ default ∷ []
 targets terminators.Unreachable = []
 
 abbrev pub phi_labels : Phi → List Name
-phi_labels p = map (λ i. i.label) p.incoming
+phi_labels p = map incoming_label p.incoming
+
+abbrev pub block_labels : Block → List Name
+block_labels b = flat_map phi_labels b.phis ++ targets b.terminator.form
 
 abbrev pub function_labels : FunctionDefinition → List Name
-function_labels f = flat_map (λ b. flat_map phi_labels b.phis ++ targets b.terminator.form) f.blocks
+function_labels f = flat_map block_labels f.blocks
 
 abbrev pub callees : Operation → List Name
 callees (operations.Call result callee arguments) = callee ∷ []
 callees _ = []
 
+abbrev pub instruction_callees : Instruction → List Name
+instruction_callees i = callees i.operation
+
+abbrev pub block_callees : Block → List Name
+block_callees b = flat_map instruction_callees b.instructions
+
 abbrev pub function_callees : FunctionDefinition → List Name
-function_callees f = flat_map (λ b. flat_map (λ i. callees i.operation) b.instructions) f.blocks
+function_callees f = flat_map block_callees f.blocks
 
 -- ---- written types
 

@@ -54,7 +54,7 @@ fn call_type(returned: &Option<IrType>) -> RegType
     }
 }
 
-fn copied(alloc: Global, name: &Name) -> Result<Name, AllocError>
+pub(crate) fn copied(alloc: Global, name: &Name) -> Result<Name, AllocError>
     ensures { IfOk result (λ copy. copy ≡ name.now) }
 {
     Ok(Name {
@@ -64,7 +64,7 @@ fn copied(alloc: Global, name: &Name) -> Result<Name, AllocError>
 }
 
 /// The name; where a tree that wasn't read leaves it out, the empty one.
-fn copied_or_none(alloc: Global, name: &Option<Name>) -> Result<Name, AllocError>
+pub(crate) fn copied_or_none(alloc: Global, name: &Option<Name>) -> Result<Name, AllocError>
     ensures { IfOk result (λ copy. copy ≡ name_or_none name.now) }
 {
     match name {
