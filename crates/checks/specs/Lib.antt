@@ -1,0 +1,6 @@
+pub mod Types
+pub mod Typed
+pub mod Errors
+pub mod Steps
+pub mod Laws
+pub mod Sample

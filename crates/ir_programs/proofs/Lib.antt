@@ -1,0 +1,7 @@
+pub mod Told
+pub mod Counting
+pub mod Repeating
+pub mod NotKnown
+mod SmallTrees
+mod Examples
+mod ExamplesOfConstants
