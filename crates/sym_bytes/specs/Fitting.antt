@@ -1,5 +1,5 @@
 -- The widths in values, bytes and entries: an offset, a size and an address have 64 bits, a byte has 8, and a byte of a
--- pointer or of a result is one of those that it has.
+-- result is one of those that the result has.
 use Rattle.std.specs.Prelude.{ℕ, ◌≡◌, ◌<◌, ◌≤◌, ◌*◌, List, [], ◌∷◌, length}
 use Rattle.terms.specs.Tree.{Tree, IsTree, width_of}
 use Rattle.flat_ir.specs.Registers.{bytes_of_type}
@@ -18,7 +18,7 @@ IsWide t = IsTree t × (width_of t ≡ 64)
 -- a byte as memory holds it
 abbrev pub IsByte : SymByte → Type 0
 IsByte (byte.Int t) = IsTree t × (width_of t ≡ 8)
-IsByte (byte.PtrByte p j) = IsWide p.offset × (j < 8)
+IsByte (byte.PtrByte p j) = IsWide p.offset
 IsByte (byte.PendingByte c t j) = j < bytes_of_type t
 
 -- a value as a register holds it

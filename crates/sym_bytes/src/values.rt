@@ -185,7 +185,6 @@ impl<H: Home> SymByte<H> {
 
     /// Byte j of a pointer, the lowest being 0.
     pub fn of_pointer(p: Pointer<H>, j: u8) -> SymByte<H>
-        requires { j < 8 }
         ensures { result ≡ byte.PtrByte p j }
     {
         let _offset = p.offset();
