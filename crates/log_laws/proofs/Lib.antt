@@ -1,0 +1,13 @@
+pub mod Tested
+pub mod Chains
+pub mod Initials
+pub mod Unmarked
+pub mod LogChanges
+pub mod Marks
+pub mod Slices
+pub mod Accesses
+pub mod Lives
+pub mod Births
+pub mod Fills
+pub mod Appending
+pub mod Examples

@@ -1,0 +1,5 @@
+pub mod Logs
+pub mod Reading
+pub mod Needs
+pub mod Standing
+pub mod Law

@@ -1,0 +1,13 @@
+pub mod Pointers
+pub mod Value
+pub mod Byte
+pub mod Entry
+pub mod Answers
+pub mod Shown
+pub mod ShownEntries
+pub mod ShownAnswers
+pub mod Fitting
+pub mod Building
+pub mod Cutting
+pub mod Joining
+pub mod Under
