@@ -1,7 +1,22 @@
 //! Graphs.
-ghost use Rattle.std.specs.Prelude.{◌≡◌, ◌<◌, [], length, slice_index_or};
+ghost use Rattle.std.specs.Prelude.{◌≡◌, ◌<◌, ℕ, [], length, slice_index_or};
+ghost use Rattle.std.specs.List.{Contains};
+ghost use Rattle.control_closure.specs.Met.{IsGraph};
+ghost use Rattle.control_closure.specs.Tells.{Tells};
 
 use plain_list::Sequence;
+
+/// Whether each number lies below a bound.
+fn are_below(numbers: &[u32], bound: usize) -> bool
+    ensures { Tells result ((k : ℕ) → Contains numbers.now k → k < bound) }
+{
+    for number in numbers {
+        if *number as usize >= bound {
+            return false;
+        }
+    }
+    true
+}
 
 /// A graph whose nodes are numbers from 0: the successors of each.
 #[derive(Drop)]
@@ -23,5 +38,17 @@ impl Graph {
         ensures { result.now ≡ slice_index_or self.now.succ node [] }
     {
         self.succ.as_slice()[node].as_slice()
+    }
+
+    /// Whether each successor is a node.
+    pub fn is_graph(&self) -> bool
+        ensures { Tells result (IsGraph self.now.succ) }
+    {
+        for node in 0..self.len() {
+            if !are_below(self.successors(node), self.len()) {
+                return false;
+            }
+        }
+        true
     }
 }

@@ -25,6 +25,41 @@ fn marked(alloc: Global, nodes: &[u32], of: u32) -> Result<Vec<bool>, AllocError
     Ok(marks)
 }
 
+/// What closing gives, or nothing where the edges or the marks are no graph's.
+fn closed(
+    alloc: Global,
+    graph: &Graph,
+    retained: &[bool],
+) -> Result<Option<Vec<bool>>, AllocError> {
+    if retained.len() != graph.len() {
+        return Ok(None);
+    }
+    if graph.len() > 16 {
+        return Ok(None);
+    }
+    if !graph.is_graph() {
+        return Ok(None);
+    }
+    Ok(Some(close(alloc, graph, retained)?))
+}
+
+/// What the first node meets first, or nothing.
+fn met(alloc: Global, graph: &Graph, retained: &[bool]) -> Result<Option<Vec<u32>>, AllocError> {
+    if retained.len() != graph.len() {
+        return Ok(None);
+    }
+    if graph.len() > 16 {
+        return Ok(None);
+    }
+    if graph.len() == 0 {
+        return Ok(None);
+    }
+    if !graph.is_graph() {
+        return Ok(None);
+    }
+    Ok(Some(first_met(alloc, graph, retained, 0)?))
+}
+
 // A loop in front of a store: the store and the end alone are closed.
 #[test]
 fn a_far_loop_is_left_out(rt: HostRuntime) -> Result<(), AllocError> {
@@ -42,12 +77,14 @@ fn a_far_loop_is_left_out(rt: HostRuntime) -> Result<(), AllocError> {
     ];
     let graph = graph(alloc, &edges, 9)?;
     let retained = marked(alloc, &[4, 8], 9)?;
-    let closed = close(alloc, &graph, retained.as_slice())?;
-    assert_eq!(rt; closed.as_slice(), retained.as_slice());
-    assert_eq!(rt;
-        first_met(alloc, &graph, retained.as_slice(), 0)?.as_slice(),
-        [4].as_slice()
-    );
+    match closed(alloc, &graph, retained.as_slice())? {
+        Some(found) => assert_eq!(rt; found.as_slice(), retained.as_slice()),
+        None => assert!(rt; false),
+    }
+    match met(alloc, &graph, retained.as_slice())? {
+        Some(found) => assert_eq!(rt; found.as_slice(), [4].as_slice()),
+        None => assert!(rt; false),
+    }
     Ok(())
 }
 
@@ -69,8 +106,10 @@ fn a_phi_keeps_its_branch(rt: HostRuntime) -> Result<(), AllocError> {
     ];
     let graph = graph(alloc, &edges, 9)?;
     let retained = marked(alloc, &[2, 5, 6, 7, 8], 9)?;
-    let closed = close(alloc, &graph, retained.as_slice())?;
     let wanted = marked(alloc, &[2, 3, 5, 6, 7, 8], 9)?;
-    assert_eq!(rt; closed.as_slice(), wanted.as_slice());
+    match closed(alloc, &graph, retained.as_slice())? {
+        Some(found) => assert_eq!(rt; found.as_slice(), wanted.as_slice()),
+        None => assert!(rt; false),
+    }
     Ok(())
 }
