@@ -1,0 +1,4 @@
+pub mod Found
+pub mod ClosedSets
+pub mod WalkSets
+pub mod SumsUp

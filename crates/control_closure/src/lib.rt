@@ -1,0 +1,13 @@
+//! Closed sets of nodes: from each node at most one of them is met first.
+#![tactic(auto)]
+
+mod closing;
+mod graph;
+mod meeting;
+mod summing;
+#[cfg(test)]
+mod tests;
+
+pub use closing::{close, closed_sets_meet_one, closing_closes};
+pub use graph::Graph;
+pub use meeting::first_met;

@@ -1,0 +1,20 @@
+use Rattle.std.proofs.Common.{List, sym, subst}
+use Rattle.std.proofs.lemmas.Result.{IfOk-weaker}
+use Rattle.flat_ir.specs.declared.names.Site.{Site}
+use Rattle.points_to.specs.declared.holders.Inclusion.TheVariants.{Stores}
+use Rattle.points_to.specs.Solving.{Has, AreThose, PutsAllBytes, Applies}
+use Rattle.points_to.proofs.Putting.{stores_applies}
+use Rattle.points_to.proofs.tables.Tables.store.Goals as goal
+
+pub returns : goal.returns
+returns c =
+    let old = c.args.self.now.kinds.items in
+    let before = c.args.self.now.changed in
+    let new = c.add_to_bytes.new.self.kinds.items in
+    let after = c.add_to_bytes.new.self.changed in
+    let targets : List Site = c.as_slice.result.now in
+    let sites : List Site = c.as_slice-2.result.now in
+    let pointed : AreThose (Has old c.args.pointer) targets = subst (λ (xs : List Site). AreThose (Has old c.args.pointer) xs) (sym c.as_slice.ensures) c.in_ok-targets.ensures in
+    let those : AreThose (Has old c.args.from) sites = subst (λ (xs : List Site). AreThose (Has old c.args.from) xs) (sym c.as_slice-2.ensures) c.in_ok-sites.ensures in
+    IfOk-weaker c.add_to_bytes.result (λ _. PutsAllBytes old before targets sites new after) (λ _. Applies (Stores c.args.from c.args.pointer) old before new after)
+    (λ _ puts. stores_applies c.args.from c.args.pointer targets sites old before new after those pointed puts) c.add_to_bytes.ensures
