@@ -5,3 +5,4 @@ pub mod NotKnown
 mod SmallTrees
 mod Examples
 mod ExamplesOfConstants
+mod ExamplesOfAnswers
