@@ -1,0 +1,4 @@
+pub mod Steps
+pub mod Offsets
+pub mod Chained
+pub mod Since

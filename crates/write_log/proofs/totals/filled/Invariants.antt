@@ -1,0 +1,6 @@
+use Rattle.std.proofs.Common.{◌≡◌, drop}
+use Rattle.log_laws.specs.Logs as log
+use Rattle.write_log.proofs.totals.filled.Given as goal
+
+abbrev pub invariant-loop-fill : goal.invariant-loop-fill
+invariant-loop-fill g l = log.filled l.at l.fills ≡ log.filled l.at (drop l.fill-index l.fills)

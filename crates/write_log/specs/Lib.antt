@@ -1,0 +1,4 @@
+pub mod Memory
+pub mod Items
+pub mod Links
+pub mod Walks

@@ -1,0 +1,17 @@
+//! The log of a path as a memory: what was done, marks of skipped calls, and fills at the marks.
+#![tactic(auto)]
+
+mod chains;
+mod covers;
+mod items;
+mod lives;
+mod log;
+mod marks;
+mod needs;
+mod reading;
+#[cfg(test)]
+mod tests;
+mod totals;
+mod trail;
+
+pub use log::Log;
