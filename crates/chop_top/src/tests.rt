@@ -62,6 +62,12 @@ const FORK_IN_FIVE_STEPS: &str = "options input=1 steps=5 leaves=10000 shares=10
 total 2 complete 0 fault 0 skipped 0 open 2
 ";
 
+const FORK_IN_SIX_STEPS: &str = "options input=1 steps=6 leaves=10000 shares=1024
+1 complete input=00 status=0 output=- steps=6
+2 complete input=41 status=1 output=- steps=6
+total 2 complete 2 fault 0 skipped 0 open 0
+";
+
 const NEVER_ENDS: &str =
     "declare i32 @getchar() define i32 @main() { %c = call i32 @getchar() %e = icmp eq i32 %c, -1 br i1 %e, label %a, label %b a: ret i32 1 b: ret i32 0 }";
 
@@ -192,6 +198,11 @@ fn budgets(rt: HostRuntime) -> Result<(), Fail> {
             ["explore", "--input", "1", "--steps", "5", "F"].as_slice(),
             FORK,
             FORK_IN_FIVE_STEPS,
+        ),
+        (
+            ["explore", "--input", "1", "--steps", "6", "F"].as_slice(),
+            FORK,
+            FORK_IN_SIX_STEPS,
         ),
         (
             ["explore", "--input", "1", "--leaves", "1", "F"].as_slice(),

@@ -188,7 +188,7 @@ pub bytes_walk : (x : ObjectName) (left : Option (List ℕ)) (item : Item) (log 
     → need_bytes x left (item ∷ log) ++ cs ≡ need_bytes x (option_map (left_behind_all x (entries_of item)) left) log ++ (open_call (cells_of x) item ++ cs)
 bytes_walk x left item log cs gap other =
     ap (λ ds. ds ++ cs) (bytes_step x left item log gap
-      ∙ ap (λ b. cond b [] (need_bytes x (option_map (left_behind_all x (entries_of item)) left) log) ++ open_call (cells_of x) item) other)
+    ∙ ap (λ b. cond b [] (need_bytes x (option_map (left_behind_all x (entries_of item)) left) log) ++ open_call (cells_of x) item) other)
     ∙ append_assoc (need_bytes x (option_map (left_behind_all x (entries_of item)) left) log) (open_call (cells_of x) item) cs
 
 pub bytes_end : (x : ObjectName) (left : Option (List ℕ)) (item : Item) (log : Log) (cs : List CallId)
@@ -196,7 +196,7 @@ pub bytes_end : (x : ObjectName) (left : Option (List ℕ)) (item : Item) (log :
     → need_bytes x left (item ∷ log) ++ cs ≡ open_call (cells_of x) item ++ cs
 bytes_end x left item log cs gap is =
     ap (λ ds. ds ++ cs) (bytes_step x left item log gap
-      ∙ ap (λ b. cond b [] (need_bytes x (option_map (left_behind_all x (entries_of item)) left) log) ++ open_call (cells_of x) item) is)
+    ∙ ap (λ b. cond b [] (need_bytes x (option_map (left_behind_all x (entries_of item)) left) log) ++ open_call (cells_of x) item) is)
 
 pub put_assoc : {A : Type 0} (xs : List A) (y : A) (ys : List A) → (xs ++ y ∷ []) ++ ys ≡ xs ++ y ∷ ys
 put_assoc xs y ys = append_assoc xs (y ∷ []) ys

@@ -233,7 +233,11 @@ fn is_zero(byte: InitByte) -> bool
 {
     match byte {
         InitByte::Int(b) => b == 0,
-        InitByte::PtrByte { global: _, offset: _, j: _ } => false,
+        InitByte::PtrByte {
+            global: _,
+            offset: _,
+            j: _,
+        } => false,
     }
 }
 

@@ -37,7 +37,10 @@ fn begun<H: Home>(terms: &Terms<H>) -> Result<Log<H>, AllocError> {
     let globals = Sequence::of_one(alloc, global)?;
     let mut log: Log<H> = Log::start(alloc, globals.as_slice())?;
     let cells = Location::Cells(Site::Global(0));
-    log.mark(CallId(1), Sequence::from_slice(alloc, &[cells, Location::Input])?)?;
+    log.mark(
+        CallId(1),
+        Sequence::from_slice(alloc, &[cells, Location::Input])?,
+    )?;
     log.append(write(terms, 5, 7)?)?;
     Ok(log)
 }
