@@ -7,8 +7,6 @@ mod entries;
 mod joining;
 mod kinds;
 mod names;
-#[cfg(test)]
-mod tests;
 mod values;
 
 pub use answers::{Joined, LifeOf, ReadByte, Wanted};

@@ -9,8 +9,6 @@ mod log;
 mod marks;
 mod needs;
 mod reading;
-#[cfg(test)]
-mod tests;
 mod totals;
 mod trail;
 
