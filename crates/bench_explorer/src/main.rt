@@ -46,12 +46,11 @@ fn reading(alloc: Global) -> Result<Sequence<Node>, AllocError>
 fn counting(alloc: Global, count: u32) -> Result<Sequence<Node>, AllocError>
     ensures { IfOk result (λ nodes. nodes ≡ spec.counting count) }
 {
-    let read = Operand::Reg(RegId(2));
     let mut nodes = Sequence::of_one(
         alloc,
         Node::Bin {
             op: BinOp::Add,
-            a: read,
+            a: Operand::Reg(RegId(2)),
             b: Operand::Int(Num::new(32, 1)),
             result: RegId(2),
             next: NodeId(4),
@@ -59,7 +58,7 @@ fn counting(alloc: Global, count: u32) -> Result<Sequence<Node>, AllocError>
     )?;
     nodes.push(Node::Cmp {
         pred: Pred::Ult,
-        a: read,
+        a: Operand::Reg(RegId(2)),
         b: Operand::Int(Num::new(32, u64::from(count))),
         result: RegId(3),
         next: NodeId(5),
@@ -69,7 +68,9 @@ fn counting(alloc: Global, count: u32) -> Result<Sequence<Node>, AllocError>
         yes: NodeId(0),
         no: NodeId(6),
     })?;
-    nodes.push(Node::Ret { value: Some(read) })?;
+    nodes.push(Node::Ret {
+        value: Some(Operand::Reg(RegId(2))),
+    })?;
     Ok(nodes)
 }
 
@@ -82,16 +83,18 @@ fn main_of(alloc: Global, count: u32) -> Result<Func, AllocError>
     names.push(Sequence::new(alloc))?;
     names.push(Sequence::new(alloc))?;
     names.push(Sequence::new(alloc))?;
-    let types = [
-        RegType::Int(32),
-        RegType::Int(1),
-        RegType::Int(32),
-        RegType::Int(1),
-    ];
     Ok(Func {
         name: Sequence::new(alloc),
         params: 0,
-        regs: Sequence::from_slice(alloc, &types)?,
+        regs: Sequence::from_slice(
+            alloc,
+            &[
+                RegType::Int(32),
+                RegType::Int(1),
+                RegType::Int(32),
+                RegType::Int(1),
+            ],
+        )?,
         reg_names: names,
         result: Some(RegType::Int(32)),
         nodes,
@@ -132,16 +135,17 @@ fn leaves_of<H: Home>(alloc: Global, opened: Opened<Shape>, count: u8) -> Result
 }
 
 /// How many leaves there are, over a new table.
-fn leaves_anew(alloc: Global, count: u8) -> Result<usize, AllocError>
-    requires { count ≤ 64 }
-{
+fn leaves_anew(alloc: Global, count: u8) -> Result<usize, AllocError> {
+    if count > 64 {
+        return Err(AllocError);
+    }
     leaves_of::<Brand>(alloc, Opened::new(), count)
 }
 
 fn main(rt: HostRuntime) -> io::Result<()> {
     let mut words = env::args(&rt)?.skip(1);
     let count = words.next().and_then(|word| word.parse::<u8>().ok());
-    match leaves_anew(rt.alloc(), count.unwrap_or(3).min(64)) {
+    match leaves_anew(rt.alloc(), count.unwrap_or(3)) {
         Ok(leaves) => println!(rt; "{leaves} leaves"),
         Err(_) => println!(rt; "no memory"),
     }
