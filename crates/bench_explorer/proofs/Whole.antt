@@ -56,7 +56,7 @@ main-whole count = record {
   params = omega arith;
   widths = All-cons IsWidth (type.Int 32) (type.Int 1 ∷ type.Int 32 ∷ type.Int 1 ∷ []) (omega arith, omega arith) (All-cons IsWidth (type.Int 1) (type.Int 32 ∷ type.Int 1 ∷ []) (omega arith, omega arith) (two IsWidth (type.Int 32) (type.Int 1) (omega arith, omega arith) (omega arith, omega arith)));
   nodes = All-cons Stands reads (tests ∷ turns ∷ counts ∷ compares count ∷ repeats ∷ returns ∷ []) reads-in (All-cons Stands tests (turns ∷ counts ∷ compares count ∷ repeats ∷ returns ∷ []) tests-in (All-cons Stands turns (counts ∷ compares count ∷ repeats ∷ returns ∷ []) turns-in
-    (All-cons Stands counts (compares count ∷ repeats ∷ returns ∷ []) counts-in (All-cons Stands (compares count) (repeats ∷ returns ∷ []) (compares-in count) (two Stands repeats returns repeats-in returns-in)))));
+      (All-cons Stands counts (compares count ∷ repeats ∷ returns ∷ []) counts-in (All-cons Stands (compares count) (repeats ∷ returns ∷ []) (compares-in count) (two Stands repeats returns repeats-in returns-in)))));
   clashes = none _;
   bad_edges = none _;
 }

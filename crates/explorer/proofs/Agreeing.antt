@@ -148,13 +148,17 @@ set_to r v next m = record m { frame = record m.frame { node = next; regs = slic
 sets-go : (i : List ℕ) (k : Moment) (m : machine.State) (r : RegId) (next : NodeId) (x : Option Tree) (v : ConcreteValue) → Agrees i k m → ((t : Tree) → x ≡ Some t → v ≡ Int (value_of t i))
     → Reaches i k (sets r next x k) (concrete.gives r v next m)
 sets-go i k m r next None v h is = tt
-sets-go i k m r next (Some t) v h is = (set_to r v next m, refl, record {
-  frame = record { func = h.frame.func; node = refl; regs = set-held i k.frame.regs m.frame.regs r.0 t v h.frame.regs (is t refl) };
-  callers = h.callers;
-  reads = h.reads;
-  quiet = h.quiet;
-  path = h.path;
-})
+sets-go i k m r next (Some t) v h is = (
+  set_to r v next m,
+  refl,
+  record {
+    frame = record { func = h.frame.func; node = refl; regs = set-held i k.frame.regs m.frame.regs r.0 t v h.frame.regs (is t refl) };
+    callers = h.callers;
+    reads = h.reads;
+    quiet = h.quiet;
+    path = h.path;
+  },
+)
 
 -- ---- comparisons, casts and choices
 
@@ -261,13 +265,17 @@ none-more (x ∷ xs) = ap (λ ys. x ∷ ys) (none-more xs)
 calls-go : (i : List ℕ) (p : ProgramData) (k : Moment) (m : machine.State) (f : FuncId) (args : List Operand) (ts : Option (List (Option Tree))) → Agrees i k m → numbers_of k.frame.regs args ≡ ts
     → Reaches i k (calls p f ts k) (concrete.calls p f args m)
 calls-go i p k m f args None h is = tt
-calls-go i p k m f args (Some ts) h is = (_, refl, record {
-  frame = entered-agrees i p f ts (map (value_in m.frame) args) (machine.step_here m.frame ∷ m.frame.name) (args-held i k m args ts h is);
-  callers = (h.frame, h.callers);
-  reads = h.reads;
-  quiet = h.quiet;
-  path = outside-more m.events (Entered m.frame.func m.frame.node f) ∙ none-more (outside [] m.events) ∙ h.path;
-})
+calls-go i p k m f args (Some ts) h is = (
+  _,
+  refl,
+  record {
+    frame = entered-agrees i p f ts (map (value_in m.frame) args) (machine.step_here m.frame ∷ m.frame.name) (args-held i k m args ts h is);
+    callers = (h.frame, h.callers);
+    reads = h.reads;
+    quiet = h.quiet;
+    path = outside-more m.events (Entered m.frame.func m.frame.node f) ∙ none-more (outside [] m.events) ∙ h.path;
+  },
+)
 
 result-held : (i : List ℕ) (r : Option RegId) (t : Option Tree) (v : Option ConcreteValue) (xs : List (Option Tree)) (g : machine.Frame) → MaybeHolds i t v → HoldAll i xs g.regs
     → HoldAll i (set_result r t xs) (concrete.set_result r v g).regs
@@ -301,13 +309,17 @@ returns_to-goes : (n : ℕ) (i : List ℕ) (p : ProgramData) (k : Moment) (m : m
 returns_to-goes n i p k m t v [] [] q h frames reads quiet path = (m, ap (λ s. Over (Exited s) m) (status-goes n i t v q h), path, quiet)
 returns_to-goes n i p k m t v [] (g ∷ gs) q h frames reads quiet path = absurd frames
 returns_to-goes n i p k m t v (f ∷ fs) [] q h frames reads quiet path = absurd frames
-returns_to-goes n i p k m t v (f ∷ fs) (g ∷ gs) q h frames reads quiet path = (_, refl, record {
-  frame = subst (λ call. FrameAgrees i (resumed call t f) (concrete.resumed (node_at p g.func g.node) v g)) (λ j. node_at p (frames.0.func j) (frames.0.node j)) (resumed-agrees i (node_at p g.func g.node) t v f g h frames.0);
-  callers = frames.1;
-  reads = reads;
-  quiet = quiet;
-  path = outside-more m.events (Returned v) ∙ none-more (outside [] m.events) ∙ path;
-})
+returns_to-goes n i p k m t v (f ∷ fs) (g ∷ gs) q h frames reads quiet path = (
+  _,
+  refl,
+  record {
+    frame = subst (λ call. FrameAgrees i (resumed call t f) (concrete.resumed (node_at p g.func g.node) v g)) (λ j. node_at p (frames.0.func j) (frames.0.node j)) (resumed-agrees i (node_at p g.func g.node) t v f g h frames.0);
+    callers = frames.1;
+    reads = reads;
+    quiet = quiet;
+    path = outside-more m.events (Returned v) ∙ none-more (outside [] m.events) ∙ path;
+  },
+)
 
 returns-go : (n : ℕ) (i : List ℕ) (p : ProgramData) (k : Moment) (m : machine.State) (v : Option Operand) → Agrees i k m → MomentFits n k → Reaches i k (returns_value p v k) (concrete.returns p (option_map (value_in m.frame) v) m.callers (concrete.ended p m))
 returns-go n i p k m None h fits = returns_to-goes n i p k (concrete.ended p m) None None k.callers m.callers tt tt h.callers (position-ended p m ∙ h.reads) (output-ended p m ∙ h.quiet) h.path
@@ -461,20 +473,24 @@ operates-goes n i k m op a b reg next (Some u) (Some w) h p q ax by =
     let vb = number-of i k m b w h by in
     let o = sets reg next (Some (folded_two (Bin op) u w)) k in
     plan-if i k (tree.width_of u == tree.width_of w) (Does (tests_of_division op u w) (sets reg next (Some (folded_two (Bin op) u w)) k)) (Does [] unexplored) _ (λ e.
-      let there = sets-go i k m reg next (Some (folded_two (Bin op) u w)) (Int (applied op (number_in m a) (number_in m b))) h (λ t is.
-        ap Int ((λ j. applied op (va j) (vb j)) ∙ sym (value-folded_two (Bin op) u w i (p.tree, q.tree, eqb-true _ _ e)) ∙ ap (λ z. value_of (unwrap_or z t) i) is)) in
-      subst (λ z. Passes i k (sets reg next (Some (folded_two (Bin op) u w)) k) (tests_of_division op u w) (unless z m (concrete.gives reg (Int (applied op (number_in m a) (number_in m b))) next m))) (λ j. division_fault op (sym va j) (sym vb j))
-      (division-passes n i k m (sets reg next (Some (folded_two (Bin op) u w)) k) op u w (concrete.gives reg (Int (applied op (number_in m a) (number_in m b))) next m) h p q there)) tt
+    let there = sets-go i k m reg next (Some (folded_two (Bin op) u w)) (Int (applied op (number_in m a) (number_in m b))) h (λ t is.
+    ap Int ((λ j. applied op (va j) (vb j)) ∙ sym (value-folded_two (Bin op) u w i (p.tree, q.tree, eqb-true _ _ e)) ∙ ap (λ z. value_of (unwrap_or z t) i) is)) in
+    subst (λ z. Passes i k (sets reg next (Some (folded_two (Bin op) u w)) k) (tests_of_division op u w) (unless z m (concrete.gives reg (Int (applied op (number_in m a) (number_in m b))) next m))) (λ j. division_fault op (sym va j) (sym vb j))
+    (division-passes n i k m (sets reg next (Some (folded_two (Bin op) u w)) k) op u w (concrete.gives reg (Int (applied op (number_in m a) (number_in m b))) next m) h p q there)) tt
 
 turn-goes : (i : List ℕ) (k : Moment) (m : machine.State) (side : ℕ) (next : NodeId) → Agrees i k m
     → GoesOn i (record (at_node next k) { path = k.path ++ record { func = k.frame.func; node = k.frame.node; side = side } ∷ [] }) (concrete.branches side next m)
-turn-goes i k m side next h = (_, refl, record {
-  frame = record { func = h.frame.func; node = refl; regs = h.frame.regs };
-  callers = h.callers;
-  reads = h.reads;
-  quiet = h.quiet;
-  path = outside-more m.events (Branched m.frame.func m.frame.node side) ∙ (λ j. h.path j ++ Branched (h.frame.func j) (h.frame.node j) side ∷ []) ∙ sym (map-append event_of k.path (record { func = k.frame.func; node = k.frame.node; side = side } ∷ []));
-})
+turn-goes i k m side next h = (
+  _,
+  refl,
+  record {
+    frame = record { func = h.frame.func; node = refl; regs = h.frame.regs };
+    callers = h.callers;
+    reads = h.reads;
+    quiet = h.quiet;
+    path = outside-more m.events (Branched m.frame.func m.frame.node side) ∙ (λ j. h.path j ++ Branched (h.frame.func j) (h.frame.node j) side ∷ []) ∙ sym (map-append event_of k.path (record { func = k.frame.func; node = k.frame.node; side = side } ∷ []));
+  },
+)
 
 choose-goes : (i : List ℕ) (k : Moment) (m : machine.State) (t : Tree) (first second : NodeId) (b : Bool) → Agrees i k m → is_met_by i t ≡ b → is_met_by i (negation t) ≡ not b
     → (j : ℕ) → MeetsAt i (t ∷ negation t ∷ []) j → GoesOn i (along (first ∷ second ∷ []) j k) (cond b (concrete.branches 0 first m) (concrete.branches 1 second m))
@@ -489,7 +505,7 @@ branches-go : (n : ℕ) (i : List ℕ) (k : Moment) (m : machine.State) (a : Ope
 branches-go n i k m a first second None h p ax = tt
 branches-go n i k m a first second (Some t) h p ax = plan-if i k (tree.width_of t == 1) (Chooses (t ∷ negation t ∷ []) (first ∷ second ∷ [])) (Does [] unexplored) _
     (λ e. choose-goes i k m t first second ((number_in m a).bits == 1) h (ap (λ v. v.bits == 1) (sym (number-of i k m a t h ax)))
-      (met-negation n t i (record { term = p; one_bit = eqb-true _ _ e }) ∙ ap (λ v. not (v.bits == 1)) (sym (number-of i k m a t h ax)))) tt
+    (met-negation n t i (record { term = p; one_bit = eqb-true _ _ e }) ∙ ap (λ v. not (v.bits == 1)) (sym (number-of i k m a t h ax)))) tt
 
 -- each node's plan goes along with the run
 pub plan-goes : (n : ℕ) (i : List ℕ) (p : ProgramData) (at : Node) (k : Moment) (m : machine.State) → IsInput n i → n ≤ 64 → MomentFits n k → Agrees i k m → PlanGoes i k (plan p n at k) (concrete.attempt p i at m)

@@ -147,8 +147,8 @@ attempt-least : (c : Setting) (s : State) → c.inputs ≤ 64 → AreRightVerdic
 unfolding attempt
 attempt-least c s most right sizes fits least = answer-if c.inputs (s.left == 0) _ (executed c (record s { left = s.left - 1 })) least
     (carried-least c (plan c.program c.inputs (node_at c.program s.moment.frame.func s.moment.frame.node) s.moment) (record s { left = s.left - 1 }) right sizes
-      (plan-fits c.inputs c.program (node_at c.program s.moment.frame.func s.moment.frame.node) s.moment most fits.moment)
-      (record { moment = fits.moment; condition = fits.condition; size = fits.size }) least)
+    (plan-fits c.inputs c.program (node_at c.program s.moment.frame.func s.moment.frame.node) s.moment most fits.moment)
+    (record { moment = fits.moment; condition = fits.condition; size = fits.size }) least)
 
 least-append : (n : ℕ) (cs ds : List Child) → ChildrenLeast n cs → ChildrenLeast n ds → ChildrenLeast n (cs ++ ds)
 least-append n [] ds h k = k

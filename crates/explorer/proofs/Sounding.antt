@@ -223,9 +223,9 @@ tested-holds : (n : ℕ) (p : ProgramData) (i : List ℕ) (test : Test) (s : Sta
 tested-holds n p i test s (Alone zero t) then' r truth c after fits meets bad good = good t fits.0 fits.1 meets
 tested-holds n p i test s (Alone (suc j) t) then' r truth c after fits meets bad good =
     subst (λ b. AnswerHolds p i (cond b (then' t) (Ends (ended (Fault test.kind t.moment.frame.func t.moment.frame.node) t)))) (sym (eqb-suc-zero j)) (λ met.
-      let failed = bad (other-side n test.holds i j truth (meets met)) in
-      ends-hold p i t (Fault test.kind t.moment.frame.func t.moment.frame.node) r (same-moment p i s t fits.1 c) after
-      (subst (λ k. EndsAs i k (Fault test.kind k.frame.func k.frame.node) r) (sym fits.1) failed))
+    let failed = bad (other-side n test.holds i j truth (meets met)) in
+    ends-hold p i t (Fault test.kind t.moment.frame.func t.moment.frame.node) r (same-moment p i s t fits.1 c) after
+    (subst (λ k. EndsAs i k (Fault test.kind k.frame.func k.frame.node) r) (sym fits.1) failed))
 tested-holds n p i test s (Several os) then' r truth c after fits meets bad good = forks-hold p i (test.holds ∷ negation test.holds ∷ []) [] s os c (λ side met. c) meets
 
 passes-hold : (c : Setting) (i : List ℕ) (o : Outcome) (tests : List Test) (s : State) (r : Run) → AreRightVerdicts c.inputs c.verdict → HaveSize c.inputs c.verdict → TestsFit c.inputs tests → StateFits c.inputs s

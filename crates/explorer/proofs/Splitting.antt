@@ -214,9 +214,9 @@ met-attempt c i s most right sizes fits =
     let at = node_at c.program s.moment.frame.func s.moment.frame.node in
     met-either i (s.left == 0) _ (executed c (record s { left = s.left - 1 })) _ refl
     (met-carried c i (plan c.program c.inputs (node_at c.program s.moment.frame.func s.moment.frame.node) s.moment) (record s { left = s.left - 1 }) right sizes
-      (plan-fits c.inputs c.program (node_at c.program s.moment.frame.func s.moment.frame.node) s.moment most fits.moment)
-      (plan-sides c.inputs c.program (node_at c.program s.moment.frame.func s.moment.frame.node) s.moment fits.moment)
-      (record { moment = fits.moment; condition = fits.condition; size = fits.size }))
+    (plan-fits c.inputs c.program (node_at c.program s.moment.frame.func s.moment.frame.node) s.moment most fits.moment)
+    (plan-sides c.inputs c.program (node_at c.program s.moment.frame.func s.moment.frame.node) s.moment fits.moment)
+    (record { moment = fits.moment; condition = fits.condition; size = fits.size }))
 
 met-appended : (i : List ℕ) (cs ds : List Child) → met_children i (cs ++ ds) ≡ met_children i cs + met_children i ds
 met-appended i [] ds = sym (zero-add (met_children i ds))

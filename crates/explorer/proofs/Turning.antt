@@ -31,9 +31,9 @@ turned-begin c cs h = record { back = λ leaves tasks e. (tasks, e); fits = h; l
 pub turned-on : (c : Setting) (old mid new : List Child) (fresh more : List Found) → Turned c old mid fresh → Turned c mid new more → Turned c old new (fresh ++ more)
 turned-on c old mid new fresh more h k = record {
   back = λ leaves tasks e.
-    let first = k.back leaves tasks e in
-    let whole = h.back (more ++ leaves) first.0 first.1 in
-    (whole.0, subst (λ ls. Explores c old ls whole.0) (sym (append_assoc fresh more leaves)) whole.1);
+      let first = k.back leaves tasks e in
+      let whole = h.back (more ++ leaves) first.0 first.1 in
+      (whole.0, subst (λ ls. Explores c old ls whole.0) (sym (append_assoc fresh more leaves)) whole.1);
   fits = k.fits;
   leaves_fit = leaves-append c.inputs fresh more h.leaves_fit k.leaves_fit;
 }

@@ -87,7 +87,7 @@ met-quotient n a b i h k =
     let ones = met-equal n b (2 ^ width_of b - 1) i k (ones_lt (width_of b)) in
     met-negation n (folded_two (Bin ops.And) (is_least a) (is_ones b)) i both_is
     ∙ ap not (ap is_yes (value-folded_two (Bin ops.And) (is_least a) (is_ones b) i (p.term.tree, q.term.tree, same) ∙ (λ j. applied ops.And (least j) (ones j)) ∙ and-truths ((value_of a i).bits == 2 ^ (width_of a - 1)) ((value_of b i).bits == 2 ^ width_of b - 1))
-      ∙ yes-truth (((value_of a i).bits == 2 ^ (width_of a - 1)) && ((value_of b i).bits == 2 ^ width_of b - 1)))
+    ∙ yes-truth (((value_of a i).bits == 2 ^ (width_of a - 1)) && ((value_of b i).bits == 2 ^ width_of b - 1)))
     ∙ (λ j. not (((value_of a i).bits == 2 ^ (wide-a j - 1)) && ((value_of b i).bits == 2 ^ wide-b j - 1)))
 
 -- ---- statuses
@@ -110,6 +110,6 @@ pub value-low_byte : (n : ℕ) (t : Tree) (i : List ℕ) → IsTerm n t → (val
 value-low_byte n t i h = bits-if (width_of t == 8) t _ i _
     (λ e. sym (mod-eq_of_lt (small n t i h (omega (arith, eqb-true (width_of t) 8 e)))))
     (λ other. bits-if (nat_lt 8 (width_of t)) (folded_one (Trunc 8) t) (folded_one (Zext 8) t) i _
-      (λ e. ap (λ m. m.bits) (value-folded_one (Trunc 8) t i (h.tree, (byte_width, leb-true 9 (width_of t) e))))
-      (λ e. let narrow : width_of t < 8 = omega (arith, leb-false 9 (width_of t) e, eqb-false (width_of t) 8 other) in
-        ap (λ m. m.bits) (value-folded_one (Zext 8) t i (h.tree, (byte_width, narrow))) ∙ sym (mod-eq_of_lt (small n t i h (omega (arith, narrow))))))
+    (λ e. ap (λ m. m.bits) (value-folded_one (Trunc 8) t i (h.tree, (byte_width, leb-true 9 (width_of t) e))))
+    (λ e. let narrow : width_of t < 8 = omega (arith, leb-false 9 (width_of t) e, eqb-false (width_of t) 8 other) in
+    ap (λ m. m.bits) (value-folded_one (Zext 8) t i (h.tree, (byte_width, narrow))) ∙ sym (mod-eq_of_lt (small n t i h (omega (arith, narrow))))))

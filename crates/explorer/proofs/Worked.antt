@@ -15,7 +15,6 @@ use Rattle.terms.specs.Tree.{Tree, constant, input, one, two}
 use Rattle.explorer.specs.States.{Found, Setting, Complete}
 use Rattle.explorer.specs.Exploring.{attempt, ExploresAll, none, stop, leaf, step, fork}
 
-
 abbrev letter : ProgramData
 letter = record {
   globals = [];
@@ -26,11 +25,11 @@ letter = record {
     reg_names = [] ∷ [] ∷ [];
     result = Some (type.Int 32);
     nodes = node.In (record { 0 = 0 }) (record { 0 = 1 })
-      ∷ node.Cmp Eq (operand.Reg (record { 0 = 0 })) (operand.Int (record { width = 32; bits = 97 })) (record { 0 = 1 }) (record { 0 = 2 })
-      ∷ node.Branch (operand.Reg (record { 0 = 1 })) (record { 0 = 3 }) (record { 0 = 4 })
-      ∷ node.Ret (Some (operand.Int (record { width = 32; bits = 1 })))
-      ∷ node.Ret (Some (operand.Int (record { width = 32; bits = 0 })))
-      ∷ [];
+        ∷ node.Cmp Eq (operand.Reg (record { 0 = 0 })) (operand.Int (record { width = 32; bits = 97 })) (record { 0 = 1 }) (record { 0 = 2 })
+        ∷ node.Branch (operand.Reg (record { 0 = 1 })) (record { 0 = 3 }) (record { 0 = 4 })
+        ∷ node.Ret (Some (operand.Int (record { width = 32; bits = 1 })))
+        ∷ node.Ret (Some (operand.Int (record { width = 32; bits = 0 })))
+        ∷ [];
     clashes = [];
     bad_edges = [];
   } ∷ [];

@@ -19,9 +19,7 @@ use crate::moments::{
 };
 use crate::sides::{Machine, Tested, sides_of};
 use crate::states::{Answer, Cause, Ending, State};
-use crate::values::{
-    cast, choice, comparison, has_quotient, is_nonzero, number_of, width_of_type,
-};
+use crate::values::{cast, choice, comparison, has_quotient, is_nonzero, number_of, width_of_type};
 use bitnum::{BinOp, Pred};
 use decider::Decide;
 use flat_ir::{CastOp, FaultKind, Node, NodeId, Operand, RegId, RegType};

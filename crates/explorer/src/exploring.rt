@@ -47,7 +47,12 @@ impl<'a, H: Home, D: Decide> Machine<'a, H, D> {
     {
         let alloc = self.terms.alloc();
         let moment = Moment {
-            frame: entered(self.program, self.terms, self.program.main, Sequence::new(alloc))?,
+            frame: entered(
+                self.program,
+                self.terms,
+                self.program.main,
+                Sequence::new(alloc),
+            )?,
             callers: Sequence::new(alloc),
             position: 0,
             path: Sequence::new(alloc),

@@ -187,11 +187,7 @@ fn set_result<H: Home>(
 }
 
 // The frame behind its call, with the result.
-fn resumed<H: Home>(
-    program: &ProgramData,
-    mut frame: Frame<H>,
-    value: Option<Term<H>>,
-) -> Frame<H>
+fn resumed<H: Home>(program: &ProgramData, mut frame: Frame<H>, value: Option<Term<H>>) -> Frame<H>
     ensures { frame_seen result ≡ plans.resumed (machine.node_at program.now frame.func frame.node) value (frame_seen frame) }
 {
     let call = nodes_of(program, frame.func).get(frame.node.0 as usize);
@@ -280,7 +276,11 @@ fn numbers_of<H: Home>(
 fn behind(types: &[RegType], count: usize) -> &[RegType]
     ensures { result.now ≡ drop count types.now }
 {
-    if count < types.len() { &types[count..] } else { &[] }
+    if count < types.len() {
+        &types[count..]
+    } else {
+        &[]
+    }
 }
 
 // Adds what registers hold before they are set.

@@ -234,7 +234,9 @@ impl<'a, H: Home, D: Decide> Machine<'a, H, D> {
             }));
         }
         let Limits { inputs, budget, .. } = self.limits;
-        let verdict = self.decide.decide(alloc, condition.as_slice(), inputs, budget)?;
+        let verdict = self
+            .decide
+            .decide(alloc, condition.as_slice(), inputs, budget)?;
         Ok(by_verdict(verdict, side, condition))
     }
 
@@ -387,11 +389,7 @@ pub(crate) fn sides_of<H: Home>(
     Ok(sides)
 }
 
-fn takes<H: Home>(
-    state: State<H>,
-    ways: &[NodeId],
-    side: usize,
-) -> Result<Answer<H>, AllocError>
+fn takes<H: Home>(state: State<H>, ways: &[NodeId], side: usize) -> Result<Answer<H>, AllocError>
     ensures { IfOk result (λ a. answer_seen a ≡ spec.taken ways.now (state_seen state) (spec.Offer.Alone side (state_seen state))) }
 {
     let State {

@@ -188,11 +188,7 @@ fn narrower<H: Home>(
     }
 }
 
-fn wider<H: Home>(
-    terms: &Terms<H>,
-    a: &Term<H>,
-    width: u8,
-) -> Result<Option<Term<H>>, AllocError>
+fn wider<H: Home>(terms: &Terms<H>, a: &Term<H>, width: u8) -> Result<Option<Term<H>>, AllocError>
     ensures { IfOk result (λ t. t ≡ spec.cast CastOp.Zext width a.now) }
 {
     if a.width() < width && width <= 64 {

@@ -10,7 +10,7 @@ pub tasks-init : goal.tasks-init
 tasks-init g c =
     subst (λ p. Turned (setting_of p c.args.limits) (Go (first_state (setting_of p c.args.limits) c.args.limits.steps c.args.limits.shares) ∷ []) (waiting_seen c.wait.new.waiting.items) (map leaf_seen c.new-leaves.result.items)) c.parts.ensures.value
     (starts (setting_of c.parts.result.now c.args.limits) c.args.limits.steps c.args.limits.shares (state_seen c.in_ok-first.field-0) (waiting_seen c.wait.new.waiting.items) (map leaf_seen c.new-leaves.result.items)
-      c.in_ok-first.ensures (c.in_ok-wait.ensures ∙ ap (λ old. Go (state_seen c.in_ok-first.field-0) ∷ waiting_seen old) c.new-waiting.ensures.items) (ap (map leaf_seen) c.new-leaves.ensures.items))
+    c.in_ok-first.ensures (c.in_ok-wait.ensures ∙ ap (λ old. Go (state_seen c.in_ok-first.field-0) ∷ waiting_seen old) c.new-waiting.ensures.items) (ap (map leaf_seen) c.new-leaves.ensures.items))
 
 pub returns-in-None-clause-leaves : goal.returns-in-None-clause-leaves
 returns-in-None-clause-leaves g c = comes-to-end (setting_of c.args.program.now c.args.limits) (Go (first_state (setting_of c.args.program.now c.args.limits) c.args.limits.steps c.args.limits.shares) ∷ []) (waiting_seen c.tasks.waiting.items) (map leaf_seen c.tasks.leaves.items) c.tasks.invariant c.in-None.ensures
