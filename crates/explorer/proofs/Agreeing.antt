@@ -19,6 +19,7 @@ use Rattle.flat_ir.specs.declared.names.NodeId.{NodeId}
 use Rattle.flat_ir.specs.declared.names.RegId.{RegId}
 use Rattle.flat_ir.specs.declared.nodes.CastOp.{CastOp}
 use Rattle.flat_ir.specs.declared.nodes.CastOp.TheVariants as to
+use Rattle.flat_ir.specs.declared.nodes.MoveSet.{MoveSet}
 use Rattle.flat_ir.specs.declared.nodes.Node.{Node}
 use Rattle.flat_ir.specs.declared.nodes.Node.TheVariants as node
 use Rattle.flat_ir.specs.declared.nodes.Operand.{Operand}
@@ -48,7 +49,7 @@ use Rattle.terms.proofs.Folds.{number_eq, value-folded_one, value-folded_two, va
 use Rattle.terms.proofs.Numbers.{width-value_of}
 use Rattle.explorer.specs.States.{Frame, Moment, Ending, Complete, Fault, Open}
 use Rattle.explorer.specs.Values.{fitting, zero_register, number_of, negation, compared, of_two, cast, cast_of, chosen, chosen_of, status_of, read_at}
-use Rattle.explorer.specs.Plans.{Test, Outcome, To, Stops, Plan, Does, Chooses, unexplored, at_node, sets, divisor_test, quotient_test, signed_tests, tests_of_division, operates, branches, set_result, resumed, returns_to, returns, returns_value, with_first, numbers_of, entered, calls, reads, exits, fails, casts, outcome, plan}
+use Rattle.explorer.specs.Plans.{Test, Outcome, To, Stops, Plan, Does, Chooses, unexplored, at_node, sets, divisor_test, quotient_test, signed_tests, tests_of_division, operates, branches, set_result, resumed, returns_to, returns, returns_value, with_first, numbers_of, entered, calls, reads, exits, fails, casts, moved_to, moves, outcome, plan}
 use Rattle.explorer.specs.Sides.{along}
 use Rattle.explorer.specs.Leaves.{event_of}
 use Rattle.explorer.specs.Fits.{IsTerm, IsValue, AreValues, MomentFits}
@@ -390,6 +391,33 @@ reads-go n i k m r next is most h = sets-go i (record k { position = suc k.posit
 jump-goes : (i : List ℕ) (k : Moment) (m : machine.State) (next : NodeId) → Agrees i k m → GoesOn i (at_node next k) (concrete.to next m)
 jump-goes i k m next h = (_, refl, record { frame = record { func = h.frame.func; node = refl; regs = h.frame.regs }; callers = h.callers; reads = h.reads; quiet = h.quiet; path = h.path })
 
+moved-held : (i : List ℕ) (k : Moment) (m : machine.State) (sets : List MoveSet) (regs rs : List (Option Tree)) (g : machine.Frame) → Agrees i k m → HoldAll i regs g.regs → moved_to k.frame.regs sets regs ≡ Some rs
+    → HoldAll i rs (concrete.set_all m.frame sets g).regs
+moved-held i k m [] regs rs g h all is = subst (λ us. HoldAll i us g.regs) (ap (λ o. unwrap_or o regs) is) all
+moved-held i k m (s ∷ sets) regs rs g h all is = by-number (number_of k.frame.regs s.value) refl is
+    (λ t at e. moved-held i k m sets (slice_set regs s.register.0 (Some t)) rs (machine.set s.register (value_in m.frame s.value) g) h (set-held i regs g.regs s.register.0 t (value_in m.frame s.value) all (number-held i k m s.value t h at)) e)
+  where
+    by-number : (x : Option Tree) → number_of k.frame.regs s.value ≡ x → elim x [ None ↦ None | Some t ↦ moved_to k.frame.regs sets (slice_set regs s.register.0 (Some t)) ] ≡ Some rs
+        → ((t : Tree) → number_of k.frame.regs s.value ≡ Some t → moved_to k.frame.regs sets (slice_set regs s.register.0 (Some t)) ≡ Some rs → HoldAll i rs (concrete.set_all m.frame (s ∷ sets) g).regs)
+        → HoldAll i rs (concrete.set_all m.frame (s ∷ sets) g).regs
+    by-number None at e more = absurd (none-some rs e)
+    by-number (Some t) at e more = more t at e
+
+set_all-func : (old : machine.Frame) (sets : List MoveSet) (g : machine.Frame) → (concrete.set_all old sets g).func ≡ g.func
+set_all-func old [] g = refl
+set_all-func old (s ∷ sets) g = set_all-func old sets (machine.set s.register (value_in old s.value) g)
+
+moves-go : (i : List ℕ) (k : Moment) (m : machine.State) (sets : List MoveSet) (next : NodeId) (rs : Option (List (Option Tree))) → Agrees i k m → moved_to k.frame.regs sets k.frame.regs ≡ rs
+    → Reaches i k (moves next rs k) (concrete.to next (concrete.with_frame (concrete.set_all m.frame sets m.frame) m))
+moves-go i k m sets next None h is = tt
+moves-go i k m sets next (Some rs) h is = (_, refl, record {
+  frame = record { func = set_all-func m.frame sets m.frame ∙ h.frame.func; node = refl; regs = moved-held i k m sets k.frame.regs rs m.frame h h.frame.regs is };
+  callers = h.callers;
+  reads = h.reads;
+  quiet = h.quiet;
+  path = h.path;
+})
+
 pub outcome-goes : (n : ℕ) (i : List ℕ) (p : ProgramData) (at : Node) (k : Moment) (m : machine.State) → IsInput n i → n ≤ 64 → MomentFits n k → Agrees i k m → Reaches i k (outcome p n at k) (concrete.attempt p i at m)
 outcome-goes n i p (node.Cmp pr a b r next) k m is most fits h = sets-go i k m r next _ _ h (λ t e. compares-go n i k m pr a b (number_of k.frame.regs a) (number_of k.frame.regs b) t h (number_of-is n k.frame.regs a fits.frame) (number_of-is n k.frame.regs b fits.frame) refl refl e)
 outcome-goes n i p (node.Cast op a r next) k m is most fits h = sets-go i k m r next _ _ h (λ t e.
@@ -397,6 +425,7 @@ outcome-goes n i p (node.Cast op a r next) k m is most fits h = sets-go i k m r 
 outcome-goes n i p (node.Select c a b r next) k m is most fits h = sets-go i k m r next _ _ h (λ t e. chosen-go i k m c a b (number_of k.frame.regs c) (number_of k.frame.regs a) (number_of k.frame.regs b) t h refl refl refl e)
 outcome-goes n i p (node.In r next) k m is most fits h = reads-go n i k m r next is most h
 outcome-goes n i p (node.Call callee args r next) k m is most fits h = calls-go i p k m callee args (numbers_of k.frame.regs args) h refl
+outcome-goes n i p (node.Moves sets next) k m is most fits h = moves-go i k m sets next (moved_to k.frame.regs sets k.frame.regs) h refl
 outcome-goes n i p (node.Jump next) k m is most fits h = jump-goes i k m next h
 outcome-goes n i p (node.Ret value) k m is most fits h = returns-go n i p k m value h fits
 outcome-goes n i p (node.Exit status) k m is most fits h = exits-go n i k m status (number_of k.frame.regs status) h (number_of-is n k.frame.regs status fits.frame) refl

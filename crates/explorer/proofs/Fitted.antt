@@ -9,6 +9,7 @@ use Rattle.bitnum.specs.declared.BinOp.TheVariants as ops
 use Rattle.flat_ir.specs.declared.names.FuncId.{FuncId}
 use Rattle.flat_ir.specs.declared.names.NodeId.{NodeId}
 use Rattle.flat_ir.specs.declared.names.RegId.{RegId}
+use Rattle.flat_ir.specs.declared.nodes.MoveSet.{MoveSet}
 use Rattle.flat_ir.specs.declared.nodes.Node.{Node}
 use Rattle.flat_ir.specs.declared.nodes.Node.TheVariants as node
 use Rattle.flat_ir.specs.declared.nodes.Operand.{Operand}
@@ -25,7 +26,7 @@ use Rattle.term_store.specs.declared.conditions.Added.{Added}
 use Rattle.term_store.specs.declared.conditions.Added.TheVariants.{Held, Appended, Contradicted}
 use Rattle.explorer.specs.States.{Frame, Moment, State, Ending, Complete, Fault, Open, Found, ended, Setting, Child, Go, Stop, Answer, Goes, Ends, Forks}
 use Rattle.explorer.specs.Values.{number_of, negation, of_two, compared, status_of, read_at}
-use Rattle.explorer.specs.Plans.{Test, Outcome, To, Stops, Plan, Does, Chooses, sets, at_node, divisor_test, quotient_test, signed_tests, tests_of_division, operates, branches, set_result, resumed, returns_to, returns, returns_value, with_first, numbers_of, entered, calls, reads, exits, fails, casts, outcome, plan}
+use Rattle.explorer.specs.Plans.{Test, Outcome, To, Stops, Plan, Does, Chooses, sets, at_node, divisor_test, quotient_test, signed_tests, tests_of_division, operates, branches, set_result, resumed, returns_to, returns, returns_value, with_first, numbers_of, entered, calls, reads, exits, fails, casts, moved_to, moves, outcome, plan}
 use Rattle.explorer.specs.Sides.{Offspring, Lives, Spends, by_verdict, candidate, offspring_of, offsprings, held_side, Offer, Alone, Several, alone, settled, offer, share_of, along_to, along, child_of, children_of, forks, taken, reached, tested, test_of, passes, carried}
 use Rattle.explorer.specs.Exploring.{executed, attempt, zeros, first_state}
 use Rattle.explorer.specs.Fits.{IsTerm, IsValue, AreValues, FramesFit, MomentFits, IsTruth, AreTruths, StateFits, EndingFits, HasSize, LeafFits, ChildFits, ChildrenFit, AnswerFits, HaveSize}
@@ -90,12 +91,25 @@ exits-fit : (n : ℕ) (x : Option Tree) → IsValue n x → OutcomeFits n (exits
 exits-fit n None h = tt
 exits-fit n (Some t) h = status-is n (Some t) h
 
+moved-are : (n : ℕ) (old : List (Option Tree)) (sets : List MoveSet) (regs : List (Option Tree)) → AreValues n old → AreValues n regs → AreAll n (moved_to old sets regs)
+moved-are n old [] regs h k = k
+moved-are n old (s ∷ sets) regs h k = by-number (number_of old s.value) (number_of-is n old s.value h) (λ t is. moved-are n old sets (slice_set regs s.register.0 (Some t)) h (set-are n regs s.register.0 (Some t) k is))
+  where
+    by-number : (x : Option Tree) → IsValue n x → ((t : Tree) → IsTerm n t → AreAll n (moved_to old sets (slice_set regs s.register.0 (Some t)))) → AreAll n (elim x [ None ↦ None | Some t ↦ moved_to old sets (slice_set regs s.register.0 (Some t)) ])
+    by-number None is more = tt
+    by-number (Some t) is more = more t is
+
+moves-fit : (n : ℕ) (next : NodeId) (regs : Option (List (Option Tree))) (m : Moment) → AreAll n regs → MomentFits n m → OutcomeFits n (moves next regs m)
+moves-fit n next None m h fits = tt
+moves-fit n next (Some regs) m h fits = record { frame = h; callers = fits.callers }
+
 outcome-fits : (n : ℕ) (p : ProgramData) (at : Node) (m : Moment) → n ≤ 64 → MomentFits n m → OutcomeFits n (outcome p n at m)
 outcome-fits n p (node.Cmp pr a b r next) m most fits = sets-fit n r next _ m (comparison-is n pr (number_of m.frame.regs a) (number_of m.frame.regs b) (number_of-is n m.frame.regs a fits.frame) (number_of-is n m.frame.regs b fits.frame)) fits
 outcome-fits n p (node.Cast op a r next) m most fits = sets-fit n r next _ m (cast_of-is n op _ (number_of m.frame.regs a) (number_of-is n m.frame.regs a fits.frame)) fits
 outcome-fits n p (node.Select c a b r next) m most fits = sets-fit n r next _ m (chosen_of-is n (number_of m.frame.regs c) (number_of m.frame.regs a) (number_of m.frame.regs b) (number_of-is n m.frame.regs c fits.frame) (number_of-is n m.frame.regs a fits.frame) (number_of-is n m.frame.regs b fits.frame)) fits
 outcome-fits n p (node.In r next) m most fits = sets-fit n r next (Some (read_at n m.position)) (record m { position = suc m.position }) (read_at-is n m.position most) (record { frame = fits.frame; callers = fits.callers })
 outcome-fits n p (node.Call callee args r next) m most fits = calls-fit n p callee (numbers_of m.frame.regs args) m (numbers-are n m.frame.regs args fits.frame) fits
+outcome-fits n p (node.Moves sets next) m most fits = moves-fit n next (moved_to m.frame.regs sets m.frame.regs) m (moved-are n m.frame.regs sets m.frame.regs fits.frame fits.frame) fits
 outcome-fits n p (node.Jump next) m most fits = record { frame = fits.frame; callers = fits.callers }
 outcome-fits n p (node.Ret value) m most fits = returns_value-fits n p value m fits
 outcome-fits n p (node.Exit status) m most fits = exits-fit n (number_of m.frame.regs status) (number_of-is n m.frame.regs status fits.frame)

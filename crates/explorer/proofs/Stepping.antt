@@ -1,8 +1,13 @@
 -- What the code's steps do, by the definitions.
-use Rattle.std.proofs.Common.{◌≡◌, ℕ, zero, suc, ◌-◌, ◌<◌, ◌≤◌, ◌==◌, false, List, [], ◌∷◌, ◌++◌, map, Result, Ok, Err, refl, sym, ◌∙◌, ap, subst, arith, append-nil}
+use Rattle.std.proofs.Common.{Option, ◌≡◌, ℕ, zero, suc, ◌-◌, ◌<◌, ◌≤◌, ◌==◌, false, List, [], ◌∷◌, ◌++◌, map, Result, Ok, Err, refl, sym, ◌∙◌, ap, subst, arith, append-nil}
 use Rattle.std.specs.Prelude.{IfOk, OnOk, cond}
 use Rattle.std.proofs.Math.Dec.{eqb-suc-zero}
 use Rattle.bitnum.specs.declared.BinOp.{BinOp}
+use Rattle.bitnum.specs.declared.Pred.{Pred}
+use Rattle.flat_ir.specs.declared.names.FuncId.{FuncId}
+use Rattle.flat_ir.specs.declared.nodes.CastOp.{CastOp}
+use Rattle.flat_ir.specs.declared.nodes.MoveSet.{MoveSet}
+use Rattle.flat_ir.specs.declared.program.ProgramData.{ProgramData}
 use Rattle.flat_ir.specs.declared.names.NodeId.{NodeId}
 use Rattle.flat_ir.specs.declared.names.RegId.{RegId}
 use Rattle.flat_ir.specs.declared.nodes.Node.{Node}
@@ -11,8 +16,8 @@ use Rattle.flat_ir.specs.declared.nodes.Operand.{Operand}
 use Rattle.explorer.specs.declared.states.Answer as code
 use Rattle.explorer.specs.declared.states.Answer.TheVariants as given
 use Rattle.explorer.specs.declared.states.Cause.TheVariants.{Steps}
-use Rattle.explorer.specs.States.{State, Open, Found, ended, Setting, Child, Go, Stop, Answer, Goes, Ends, Forks}
-use Rattle.explorer.specs.Plans.{outcome, plan}
+use Rattle.explorer.specs.States.{Moment, State, Open, Found, ended, Setting, Child, Go, Stop, Answer, Goes, Ends, Forks}
+use Rattle.explorer.specs.Plans.{unexplored, outcome, plan}
 use Rattle.explorer.specs.Sides.{reached, carried}
 use Rattle.explorer.specs.Exploring.{executed, attempt, first_state, Explores}
 use Rattle.explorer.specs.Fits.{StateFits, LeafFits, ChildFits, ChildrenFit, LeavesFit, AnswerFits, HaveSize}
@@ -40,6 +45,35 @@ pub plain-carried : {H E : Type 0} (c : Setting) (at : Node) (s : State) (made :
 plain-carried c (node.Bin op a b r next) s made bin branch h = absurd (bin op a b r next refl)
 plain-carried c (node.Branch a first second) s made bin branch h = absurd (branch a first second refl)
 plain-carried c at s made bin branch h = h
+
+-- a node of no kind that is explored
+pub unexplored-outcome : (p : ProgramData) (n : ℕ) (at : Node) (m : Moment)
+    → ((pr : Pred) (a b : Operand) (r : RegId) (next : NodeId) → at ≡ node.Cmp pr a b r next → ⊥)
+    → ((op : CastOp) (a : Operand) (r : RegId) (next : NodeId) → at ≡ node.Cast op a r next → ⊥)
+    → ((c a b : Operand) (r : RegId) (next : NodeId) → at ≡ node.Select c a b r next → ⊥)
+    → ((r : RegId) (next : NodeId) → at ≡ node.In r next → ⊥)
+    → ((callee : FuncId) (args : List Operand) (r : Option RegId) (next : NodeId) → at ≡ node.Call callee args r next → ⊥)
+    → ((sets : List MoveSet) (next : NodeId) → at ≡ node.Moves sets next → ⊥)
+    → ((next : NodeId) → at ≡ node.Jump next → ⊥)
+    → ((value : Option Operand) → at ≡ node.Ret value → ⊥)
+    → ((status : Operand) → at ≡ node.Exit status → ⊥)
+    → (at ≡ node.Abort → ⊥)
+    → ((args : List Operand) → at ≡ node.Assert args → ⊥)
+    → (at ≡ node.Unreachable → ⊥)
+    → unexplored ≡ outcome p n at m
+unexplored-outcome p n (node.Cmp pr a b r next) m h1 h2 h3 h4 h5 h6 h7 h8 h9 h10 h11 h12 = absurd (h1 pr a b r next refl)
+unexplored-outcome p n (node.Cast op a r next) m h1 h2 h3 h4 h5 h6 h7 h8 h9 h10 h11 h12 = absurd (h2 op a r next refl)
+unexplored-outcome p n (node.Select c a b r next) m h1 h2 h3 h4 h5 h6 h7 h8 h9 h10 h11 h12 = absurd (h3 c a b r next refl)
+unexplored-outcome p n (node.In r next) m h1 h2 h3 h4 h5 h6 h7 h8 h9 h10 h11 h12 = absurd (h4 r next refl)
+unexplored-outcome p n (node.Call callee args r next) m h1 h2 h3 h4 h5 h6 h7 h8 h9 h10 h11 h12 = absurd (h5 callee args r next refl)
+unexplored-outcome p n (node.Moves sets next) m h1 h2 h3 h4 h5 h6 h7 h8 h9 h10 h11 h12 = absurd (h6 sets next refl)
+unexplored-outcome p n (node.Jump next) m h1 h2 h3 h4 h5 h6 h7 h8 h9 h10 h11 h12 = absurd (h7 next refl)
+unexplored-outcome p n (node.Ret value) m h1 h2 h3 h4 h5 h6 h7 h8 h9 h10 h11 h12 = absurd (h8 value refl)
+unexplored-outcome p n (node.Exit status) m h1 h2 h3 h4 h5 h6 h7 h8 h9 h10 h11 h12 = absurd (h9 status refl)
+unexplored-outcome p n node.Abort m h1 h2 h3 h4 h5 h6 h7 h8 h9 h10 h11 h12 = absurd (h10 refl)
+unexplored-outcome p n (node.Assert args) m h1 h2 h3 h4 h5 h6 h7 h8 h9 h10 h11 h12 = absurd (h11 args refl)
+unexplored-outcome p n node.Unreachable m h1 h2 h3 h4 h5 h6 h7 h8 h9 h10 h11 h12 = absurd (h12 refl)
+unexplored-outcome p n at m h1 h2 h3 h4 h5 h6 h7 h8 h9 h10 h11 h12 = refl
 
 -- what a turn leaves, where it is done
 abbrev pub Did : {E : Type 0} → Setting → Result (Unit {0}) E → List Child → List Child → List Found → List Found → Type 0

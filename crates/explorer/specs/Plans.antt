@@ -9,6 +9,7 @@ use Rattle.flat_ir.specs.declared.names.FuncId.{FuncId}
 use Rattle.flat_ir.specs.declared.names.NodeId.{NodeId}
 use Rattle.flat_ir.specs.declared.names.RegId.{RegId}
 use Rattle.flat_ir.specs.declared.nodes.CastOp.{CastOp}
+use Rattle.flat_ir.specs.declared.nodes.MoveSet.{MoveSet}
 use Rattle.flat_ir.specs.declared.nodes.Node.{Node}
 use Rattle.flat_ir.specs.declared.nodes.Node.TheVariants as node
 use Rattle.flat_ir.specs.declared.nodes.Operand.{Operand}
@@ -136,14 +137,24 @@ fails kind m = Stops (Fault kind m.frame.func m.frame.node)
 abbrev pub casts : ProgramData → CastOp → Operand → RegId → NodeId → Moment → Outcome
 casts p op a r next m = sets r next (cast_of op (width_of (type_at p m.frame.func r)) (number_of m.frame.regs a)) m
 
--- what a node does that makes no test and takes no side: 'icmp', the casts, 'select', getchar's effect, 'call', 'br' with one
--- label, 'ret', exit, abort, a failed assert, and 'unreachable'
+-- the registers after sets that are made at once, where each has a number
+abbrev pub moved_to : List (Option Tree) → List MoveSet → List (Option Tree) → Option (List (Option Tree))
+moved_to old [] regs = Some regs
+moved_to old (s ∷ sets) regs = elim (number_of old s.value) [ None ↦ None | Some t ↦ moved_to old sets (slice_set regs s.register.0 (Some t)) ]
+
+abbrev pub moves : NodeId → Option (List (Option Tree)) → Moment → Outcome
+moves next None m = unexplored
+moves next (Some regs) m = To (record m { frame = record m.frame { node = next; regs = regs } })
+
+-- what a node does that makes no test and takes no side: 'icmp', the casts, 'select', getchar's effect, 'call', the phis of a
+-- block on one edge, all at once, 'br' with one label, 'ret', exit, abort, a failed assert, and 'unreachable'
 abbrev pub outcome : ProgramData → ℕ → Node → Moment → Outcome
 outcome p inputs (node.Cmp pr a b r next) m = sets r next (of_two (compared pr) (number_of m.frame.regs a) (number_of m.frame.regs b)) m
 outcome p inputs (node.Cast op a r next) m = casts p op a r next m
 outcome p inputs (node.Select c a b r next) m = sets r next (chosen_of (number_of m.frame.regs c) (number_of m.frame.regs a) (number_of m.frame.regs b)) m
 outcome p inputs (node.In r next) m = reads inputs r next m
 outcome p inputs (node.Call callee args r next) m = calls p callee (numbers_of m.frame.regs args) m
+outcome p inputs (node.Moves sets next) m = moves next (moved_to m.frame.regs sets m.frame.regs) m
 outcome p inputs (node.Jump next) m = To (at_node next m)
 outcome p inputs (node.Ret value) m = returns_value p value m
 outcome p inputs (node.Exit status) m = exits (number_of m.frame.regs status)

@@ -15,7 +15,7 @@ ghost use Rattle.explorer.specs.Views.{moment_seen, state_seen, answer_seen, set
 ghost use Rattle.explorer.specs.Offers.{answer_after, TestedKeeps};
 
 use crate::moments::{
-    calls, exits, fails, jumps, nodes_of, reads, returns_value, sets, types_of, unexplored,
+    calls, exits, fails, jumps, moves, nodes_of, reads, returns_value, sets, types_of, unexplored,
 };
 use crate::sides::{Machine, Tested, sides_of};
 use crate::states::{Answer, Cause, Ending, State};
@@ -374,6 +374,7 @@ impl<'a, H: Home, D: Decide> Machine<'a, H, D> {
             Node::Call { callee, args, .. } => {
                 calls(self.program, self.terms, state, *callee, args.as_slice())
             }
+            Node::Moves { sets, next } => moves(self.terms, state, sets.as_slice(), *next),
             Node::Jump { next } => Ok(jumps(state, *next)),
             Node::Ret { value } => returns_value(self.program, self.terms, state, value),
             Node::Exit { status } => self.exits_with(state, status),

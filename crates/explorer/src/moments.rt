@@ -12,7 +12,7 @@ ghost use Rattle.explorer.specs.Calls.{result_in, next_in};
 
 use crate::states::{Answer, Cause, Ending, Frame, Leaf, Moment, State, Turn};
 use crate::values::{copied, number_of, read_at, status_of, zero_register};
-use flat_ir::{FaultKind, FuncId, Node, NodeId, Operand, ProgramData, RegId, RegType};
+use flat_ir::{FaultKind, FuncId, MoveSet, Node, NodeId, Operand, ProgramData, RegId, RegType};
 use places::Home;
 use plain_list::Sequence;
 use std::alloc::{AllocError, Global};
@@ -350,6 +350,55 @@ fn copied_regs<H: Home>(
         copies.push(copied(register)?)?;
     }
     Ok(copies)
+}
+
+// The registers after sets that are made at once, where each has a number.
+fn moved<H: Home>(
+    terms: &Terms<H>,
+    old: &[Option<Term<H>>],
+    sets: &[MoveSet],
+) -> Result<Option<Sequence<Option<Term<H>>>>, AllocError>
+    ensures { IfOk result (λ regs. regs ≡ plans.moved_to old.now sets.now old.now) }
+{
+    let mut regs = copied_regs(terms.alloc(), old)?;
+    'sets: for entry in sets {
+        match number_of(terms, old, &entry.value)? {
+            Some(term) => set(&mut regs, entry.register, term),
+            None => return Ok(None),
+        }
+    }
+    Ok(Some(regs))
+}
+
+// The state at a node with these registers, if there are any.
+fn goes_with<H: Home>(
+    mut state: State<H>,
+    next: NodeId,
+    regs: Option<Sequence<Option<Term<H>>>>,
+) -> Answer<H>
+    ensures { answer_seen result ≡ reached (plans.moves next regs (moment_seen state.moment)) (state_seen state) }
+{
+    match regs {
+        Some(regs) => {
+            state.moment.frame.regs = regs;
+            state.moment.frame.node = next;
+            Answer::Goes(state)
+        }
+        None => unexplored(state),
+    }
+}
+
+/// Makes sets at once.
+pub(crate) fn moves<H: Home>(
+    terms: &Terms<H>,
+    state: State<H>,
+    sets: &[MoveSet],
+    next: NodeId,
+) -> Result<Answer<H>, AllocError>
+    ensures { IfOk result (λ a. answer_seen a ≡ reached (plans.moves next (plans.moved_to state.moment.frame.regs sets.now state.moment.frame.regs) (moment_seen state.moment)) (state_seen state)) }
+{
+    let regs = moved(terms, state.moment.frame.regs.as_slice(), sets)?;
+    Ok(goes_with(state, next, regs))
 }
 
 impl<H: Home> Frame<H> {

@@ -4,7 +4,6 @@ use Rattle.flat_ir.specs.declared.values.FaultKind.TheVariants as fault
 use Rattle.explorer.specs.Fits.{IsTruth}
 use Rattle.explorer.specs.Offers.{answer_after}
 use Rattle.explorer.specs.Sides.{test_of}
-use Rattle.explorer.specs.Values.{is_nonzero}
 use Rattle.explorer.specs.Views.{state_seen, setting_of}
 use Rattle.explorer.proofs.Keeping.{is_nonzero-is}
 use Rattle.explorer.proofs.sides.Machine.divides_by.Goals as goal

@@ -1,13 +1,10 @@
-use Rattle.std.proofs.Common.{◌≡◌, subst, sym, ap, ◌∙◌, arith}
-use Rattle.std.specs.Prelude.{IfOk, Some, [], ◌∷◌}
+use Rattle.std.proofs.Common.{◌≡◌, subst}
+use Rattle.std.specs.Prelude.{IfOk}
 use Rattle.flat_ir.specs.declared.values.FaultKind.TheVariants as fault
-use Rattle.terms.specs.declared.term.Binary.TheVariants.{Bin}
-use Rattle.terms.specs.Folding.{folded_two}
 use Rattle.explorer.specs.Offers.{answer_after}
-use Rattle.explorer.specs.Plans.{sets, tests_of_division, signed_tests}
-use Rattle.explorer.specs.Sides.{test_of, passes, reached}
+use Rattle.explorer.specs.Sides.{test_of, reached}
 use Rattle.explorer.specs.Values.{is_nonzero, has_quotient}
-use Rattle.explorer.specs.Views.{state_seen, moment_seen, answer_seen, setting_of}
+use Rattle.explorer.specs.Views.{state_seen, setting_of}
 use Rattle.explorer.proofs.sides.Machine.divides_signed.Goals as goal
 
 pub returns-in-Passed-clause-tests : goal.returns-in-Passed-clause-tests

@@ -4,7 +4,6 @@ use Rattle.flat_ir.specs.declared.values.FaultKind.TheVariants as fault
 use Rattle.explorer.specs.Fits.{IsTruth}
 use Rattle.explorer.specs.Offers.{answer_after}
 use Rattle.explorer.specs.Sides.{test_of}
-use Rattle.explorer.specs.Values.{has_quotient}
 use Rattle.explorer.specs.Views.{state_seen, setting_of}
 use Rattle.explorer.proofs.Keeping.{has_quotient-is}
 use Rattle.explorer.proofs.sides.Machine.has_quotient.Goals as goal
