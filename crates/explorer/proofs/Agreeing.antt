@@ -410,13 +410,17 @@ set_all-func old (s ∷ sets) g = set_all-func old sets (machine.set s.register 
 moves-go : (i : List ℕ) (k : Moment) (m : machine.State) (sets : List MoveSet) (next : NodeId) (rs : Option (List (Option Tree))) → Agrees i k m → moved_to k.frame.regs sets k.frame.regs ≡ rs
     → Reaches i k (moves next rs k) (concrete.to next (concrete.with_frame (concrete.set_all m.frame sets m.frame) m))
 moves-go i k m sets next None h is = tt
-moves-go i k m sets next (Some rs) h is = (_, refl, record {
-  frame = record { func = set_all-func m.frame sets m.frame ∙ h.frame.func; node = refl; regs = moved-held i k m sets k.frame.regs rs m.frame h h.frame.regs is };
-  callers = h.callers;
-  reads = h.reads;
-  quiet = h.quiet;
-  path = h.path;
-})
+moves-go i k m sets next (Some rs) h is = (
+  _,
+  refl,
+  record {
+    frame = record { func = set_all-func m.frame sets m.frame ∙ h.frame.func; node = refl; regs = moved-held i k m sets k.frame.regs rs m.frame h h.frame.regs is };
+    callers = h.callers;
+    reads = h.reads;
+    quiet = h.quiet;
+    path = h.path;
+  },
+)
 
 pub outcome-goes : (n : ℕ) (i : List ℕ) (p : ProgramData) (at : Node) (k : Moment) (m : machine.State) → IsInput n i → n ≤ 64 → MomentFits n k → Agrees i k m → Reaches i k (outcome p n at k) (concrete.attempt p i at m)
 outcome-goes n i p (node.Cmp pr a b r next) k m is most fits h = sets-go i k m r next _ _ h (λ t e. compares-go n i k m pr a b (number_of k.frame.regs a) (number_of k.frame.regs b) t h (number_of-is n k.frame.regs a fits.frame) (number_of-is n k.frame.regs b fits.frame) refl refl e)
