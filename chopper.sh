@@ -11,4 +11,6 @@ if [ ! -x "$program" ] || [ -n "$(find "$here/crates" -name '*.rt' -newer "$prog
     fi
     rm -f "$log"
 fi
+# Walks of terms call themselves once a level, and a term may have 65,535 levels: where the system allows it, the stack is larger.
+ulimit -S -s 262144 2>/dev/null || ulimit -S -s "$(ulimit -H -s)" 2>/dev/null || true
 exec "$program" "$@"
