@@ -6,3 +6,4 @@ mod SmallTrees
 mod Examples
 mod ExamplesOfConstants
 mod ExamplesOfAnswers
+mod ExamplesOfReadable

@@ -1,12 +1,12 @@
 -- Places behind a pointer (Language Reference, "'getelementptr' Instruction" and "Constant Expressions"): an index is a signed number, the first one steps over whole values of
 -- the source's type, and each other one into an element of an array or a field of a struct.
-use Rattle.std.specs.Prelude.{ℕ, ◌+◌, ◌*◌, ◌%◌, ◌^◌, Bool, true, false, List, [], ◌∷◌, map, Option, Some, None, slice_get}
+use Rattle.std.specs.Prelude.{ℕ, ◌+◌, ◌*◌, ◌%◌, ◌^◌, Bool, true, false, List, [], ◌∷◌, map, min, Option, Some, None, slice_get}
 use Rattle.bitnum.specs.Bits.{sign_extended}
 use Rattle.flat_ir.specs.declared.nodes.GepPart.{GepPart}
 use Rattle.flat_ir.specs.declared.nodes.GepPart.TheVariants as part
 use Rattle.flat_ir.specs.declared.nodes.Operand.{Operand}
 use Rattle.layout.specs.Layout.{Extent, field_place}
-use Rattle.ir_tree.specs.Layout.{extent, each}
+use Rattle.ir_tree.specs.Layout.{extent, each, most}
 use Rattle.ir_tree.specs.declared.types.IrType.{IrType}
 use Rattle.ir_tree.specs.declared.types.IrType.TheOpen.{IrType-F}
 use Rattle.ir_tree.specs.declared.constants.ConstIndex.{ConstIndex}
@@ -20,13 +20,13 @@ use Rattle.ir_programs.specs.Types.{size_of}
 use Rattle.ir_programs.specs.Constants.{head_of, step_into}
 use Rattle.ir_programs.specs.Causes.{bits_of}
 
--- where a field stands
 abbrev pub place_or_zero : Bool → ℕ → Option (List Extent) → ℕ
 place_or_zero packed k (Some es) = field_place packed 0 es k
 place_or_zero packed k None = 0
 
+-- where a field stands, told as far as sizes are
 abbrev pub field_offset : List TypeDefinition → List IrType → Bool → ℕ → ℕ
-field_offset defined fields packed k = place_or_zero packed k (each (map (extent defined) fields))
+field_offset defined fields packed k = min most (place_or_zero packed k (each (map (extent defined) fields)))
 
 -- ---- constant pointers
 

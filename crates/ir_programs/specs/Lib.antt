@@ -17,3 +17,4 @@ pub mod Edges
 pub mod Programs
 pub mod Answers
 pub mod Steps
+pub mod Readable

@@ -1,5 +1,5 @@
 -- The program of a tree.
-use Rattle.std.specs.Prelude.{ℕ, zero, suc, ◌+◌, ◌-◌, ◌/◌, ◌%◌, Bool, List, [], ◌∷◌, ◌++◌, map, length, replicate, codes}
+use Rattle.std.specs.Prelude.{ℕ, zero, suc, ◌+◌, ◌-◌, ◌/◌, ◌%◌, Bool, List, [], ◌∷◌, ◌++◌, map, length, replicate, take, codes}
 use Rattle.std.specs.List.{flat_map}
 use Rattle.std.specs.Option.{option_map}
 use Rattle.flat_ir.specs.declared.program.Func.{Func}
@@ -75,8 +75,9 @@ kind_level (Constant-F.Bytes kind at bytes) = kind
 kind_level (Constant-F.Array kind at elements) = kind
 kind_level (Constant-F.Struct kind at fields packed) = kind
 
+-- as many bytes as its type has: a constant that fits its type has no more
 abbrev pub global_var : IrTree → GlobalDefinition → GlobalVar
-global_var t g = record { name = g.name.text; size = size_of t.types (kind_level (out-Constant g.value)); init = constant_bytes t g.value }
+global_var t g = let size = size_of t.types (kind_level (out-Constant g.value)) in record { name = g.name.text; size = size; init = take size (constant_bytes t g.value) }
 
 -- ---- functions
 

@@ -1,8 +1,8 @@
 -- Named types, and sizes (Language Reference, "Structure Type"): which names are used, which types hold themselves, which are one.
-use Rattle.std.specs.Prelude.{ℕ, zero, suc, Bool, true, false, ◌||◌, nat_lt, List, [], ◌∷◌, length, Option, Some, None}
+use Rattle.std.specs.Prelude.{ℕ, zero, suc, Bool, true, false, ◌||◌, nat_lt, List, [], ◌∷◌, length, Option, Some, None, min}
 use Rattle.std.specs.List.{flat_map, filter}
 use Rattle.layout.specs.Layout.{Extent}
-use Rattle.ir_tree.specs.Layout.{kind_of, extent}
+use Rattle.ir_tree.specs.Layout.{kind_of, extent, most}
 use Rattle.ir_tree.specs.Spelling.{type_tokens}
 use Rattle.ir_tree.specs.declared.types.Name.{Name}
 use Rattle.ir_tree.specs.declared.types.IrType.{IrType, fold-IrType, out-IrType}
@@ -77,9 +77,9 @@ abbrev pub size_or_zero : Option Extent → ℕ
 size_or_zero (Some e) = e.size
 size_or_zero None = 0
 
--- how many bytes a type takes; a type that holds itself or an unknown one takes none
+-- how many bytes a type takes, told up to one more than an object may have; a type that holds itself or an unknown one takes none
 abbrev pub size_of : List TypeDefinition → IrType → ℕ
-size_of defined t = size_or_zero (extent defined t)
+size_of defined t = min most (size_or_zero (extent defined t))
 
 -- where an aggregate or a name stands
 abbrev pub place_level : IrType-F IrType → List ℕ

@@ -15,7 +15,8 @@ use ir_tree::types::Name;
 use plain_list::Sequence;
 use std::alloc::{AllocError, Global};
 
-fn is_known(text: &[u8], texts: &[Sequence<u8>]) -> bool
+/// Whether the text is one of those that are known.
+pub fn is_known(text: &[u8], texts: &[Sequence<u8>]) -> bool
     ensures { result ≡ among text.now texts.now }
 {
     'each: for known in texts {

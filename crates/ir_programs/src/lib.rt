@@ -12,10 +12,10 @@ mod repeats;
 #[cfg(test)]
 mod tests;
 
-pub use absences::{absences_told, labels_told};
+pub use absences::{absences_told, is_known, labels_told};
 pub use integers::fits_width;
-pub use locals::{Local, locals_of, register_type, result_type};
-pub use numbers::numbers_told;
+pub use locals::{Local, copied, copied_or_none, locals_of, register_type, result_type};
+pub use numbers::{is_same, noted, numbers_told};
 pub use parts::{function_callees, function_labels, labels_of};
 pub use refusals::{Cause, Refusal, answers_are_one, earlier};
 pub use registers::{register_names, register_types};

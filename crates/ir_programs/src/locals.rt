@@ -54,7 +54,8 @@ fn call_type(returned: &Option<IrType>) -> RegType
     }
 }
 
-pub(crate) fn copied(alloc: Global, name: &Name) -> Result<Name, AllocError>
+/// A copy of the name.
+pub fn copied(alloc: Global, name: &Name) -> Result<Name, AllocError>
     ensures { IfOk result (λ copy. copy ≡ name.now) }
 {
     Ok(Name {
@@ -64,7 +65,7 @@ pub(crate) fn copied(alloc: Global, name: &Name) -> Result<Name, AllocError>
 }
 
 /// The name; where a tree that wasn't read leaves it out, the empty one.
-pub(crate) fn copied_or_none(alloc: Global, name: &Option<Name>) -> Result<Name, AllocError>
+pub fn copied_or_none(alloc: Global, name: &Option<Name>) -> Result<Name, AllocError>
     ensures { IfOk result (λ copy. copy ≡ name_or_none name.now) }
 {
     match name {

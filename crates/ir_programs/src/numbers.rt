@@ -15,7 +15,7 @@ use crate::refusals::{Cause, Refusal, earlier};
 use std::alloc::{AllocError, Global};
 
 /// Whether two texts are one.
-pub(crate) fn is_same(a: &[u8], b: &[u8]) -> bool
+pub fn is_same(a: &[u8], b: &[u8]) -> bool
     ensures { result ≡ texts.same a.now b.now }
 {
     a == b
@@ -55,8 +55,8 @@ fn is_decimal(alloc: Global, name: &[u8], number: u64) -> Result<bool, AllocErro
     Ok(is_same(name, written.as_bytes()))
 }
 
-/// What is told once one more condition fails.
-pub(crate) fn noted(told: Option<Refusal>, cause: Cause, at: u32) -> Option<Refusal>
+/// What is told once one more condition fails, at this place.
+pub fn noted(told: Option<Refusal>, cause: Cause, at: u32) -> Option<Refusal>
     ensures { result ≡ merged told (Some (record { at = at; cause = cause })) }
 {
     let found = Refusal { at, cause };
