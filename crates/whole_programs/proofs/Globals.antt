@@ -73,18 +73,18 @@ module _ {A : Type 0} (f : Constant-F A → A) where
 
 -- ---- the type of a constant is the first in it
 
-abbrev BeginsWith : IrType → List IrType → Type 0
-BeginsWith t ts = (others : List IrType) × (ts ≡ t ∷ others)
+abbrev IsFirstOf : IrType → List IrType → Type 0
+IsFirstOf t ts = (others : List IrType) × (ts ≡ t ∷ others)
 
-abbrev Begins : Constant → Type 0
-Begins c = BeginsWith (kind_level (out-Constant c)) (fold-Constant (List IrType) constant_types_level c)
+abbrev HasFirst : Constant → Type 0
+HasFirst c = IsFirstOf (kind_level (out-Constant c)) (fold-Constant (List IrType) constant_types_level c)
 
-begins : (c : Constant) → Begins c
+begins : (c : Constant) → HasFirst c
 begins =
-    by_variant Begins (λ kind v. subst (λ x. BeginsWith (kind_level x) (fold-Constant (List IrType) constant_types_level (constants.Value kind v))) (sym (views.outs-Value kind v)) ([], fold_value constant_types_level kind v))
-    (λ kind at bytes. subst (λ x. BeginsWith (kind_level x) (fold-Constant (List IrType) constant_types_level (constants.Bytes kind at bytes))) (sym (views.outs-Bytes kind at bytes)) ([], fold_bytes constant_types_level kind at bytes))
-    (λ kind at cs. subst (λ x. BeginsWith (kind_level x) (fold-Constant (List IrType) constant_types_level (constants.Array kind at cs))) (sym (views.outs-Array kind at cs)) (flat_map (λ ts. ts) (map (fold-Constant (List IrType) constant_types_level) cs), fold_array constant_types_level kind at cs))
-    (λ kind at cs packed. subst (λ x. BeginsWith (kind_level x) (fold-Constant (List IrType) constant_types_level (constants.Struct kind at cs packed))) (sym (views.outs-Struct kind at cs packed))
+    by_variant HasFirst (λ kind v. subst (λ x. IsFirstOf (kind_level x) (fold-Constant (List IrType) constant_types_level (constants.Value kind v))) (sym (views.outs-Value kind v)) ([], fold_value constant_types_level kind v))
+    (λ kind at bytes. subst (λ x. IsFirstOf (kind_level x) (fold-Constant (List IrType) constant_types_level (constants.Bytes kind at bytes))) (sym (views.outs-Bytes kind at bytes)) ([], fold_bytes constant_types_level kind at bytes))
+    (λ kind at cs. subst (λ x. IsFirstOf (kind_level x) (fold-Constant (List IrType) constant_types_level (constants.Array kind at cs))) (sym (views.outs-Array kind at cs)) (flat_map (λ ts. ts) (map (fold-Constant (List IrType) constant_types_level) cs), fold_array constant_types_level kind at cs))
+    (λ kind at cs packed. subst (λ x. IsFirstOf (kind_level x) (fold-Constant (List IrType) constant_types_level (constants.Struct kind at cs packed))) (sym (views.outs-Struct kind at cs packed))
     (flat_map (λ ts. ts) (map (fold-Constant (List IrType) constant_types_level) cs), fold_struct constant_types_level kind at cs packed))
 
 pub first_kind : (P : IrType → Type 0) (c : Constant) → AllByRecursion P (constant_types c) → P (kind_level (out-Constant c))
@@ -162,16 +162,16 @@ module _ (t : IrTree) (globals : ℕ) (global_in : (name : List ℕ) → is_glob
   abbrev bytes_of : Constant → List InitByte
   bytes_of c = fold-Constant (List InitByte) (bytes_level t) c
 
-  abbrev Fills : Constant → Type 0
-  Fills c = AllByRecursion (KnowsGlobals t) (values_of c) → AreIn (bytes_of c)
+  abbrev IsFilled : Constant → Type 0
+  IsFilled c = AllByRecursion (KnowsGlobals t) (values_of c) → AreIn (bytes_of c)
 
-  parts_fill : (cs : List Constant) → AllByRecursion Fills cs → AllByRecursion (KnowsGlobals t) (flat_map (λ vs. vs) (map values_of cs)) → AllByRecursion AreIn (map bytes_of cs)
+  parts_fill : (cs : List Constant) → AllByRecursion IsFilled cs → AllByRecursion (KnowsGlobals t) (flat_map (λ vs. vs) (map values_of cs)) → AllByRecursion AreIn (map bytes_of cs)
   parts_fill [] h k = tt
   parts_fill (c ∷ cs) h k = (h.0 (each_front (KnowsGlobals t) (values_of c) (flat_map (λ vs. vs) (map values_of cs)) k), parts_fill cs h.1 (each_back (KnowsGlobals t) (values_of c) (flat_map (λ vs. vs) (map values_of cs)) k))
 
-  fills : (c : Constant) → Fills c
+  fills : (c : Constant) → IsFilled c
   fills =
-      by_parts Fills
+      by_parts IsFilled
       (λ kind v h. subst AreIn (sym (fold_value (bytes_level t) kind v)) (padded_in (size_of t.types kind) (value_bytes t (head_of t.types kind) v.form) (value_in (head_of t.types kind) v.at v.form (subst (AllByRecursion (KnowsGlobals t)) (fold_value constant_level kind v) h).0)))
       (λ kind at bytes h. subst AreIn (sym (fold_bytes (bytes_level t) kind at bytes)) (strings_in bytes))
       (λ kind at cs C h. subst AreIn (sym (fold_array (bytes_level t) kind at cs)) (to_flat (InitIn globals) (λ (b : List InitByte). b) (map bytes_of cs) (parts_fill cs C (subst (AllByRecursion (KnowsGlobals t)) (fold_array constant_level kind at cs) h))))

@@ -13,3 +13,4 @@ pub mod Facts
 pub mod Functions
 pub mod Main
 pub mod Law
+pub mod Answered

@@ -78,22 +78,22 @@ is_whole =
     (λ at len e h. ap (λ (x : Nested). x.whole) (fold_array nested_level at len e) ∙ ap (types.Array at len) h)
     (λ at fields packed h. ap (λ (x : Nested). x.whole) (fold_struct nested_level at fields packed) ∙ ap (λ fs. types.Struct at fs packed) (fields_whole fields h))
 
-abbrev Begins : Nested → Type 0
-Begins n = (inner : List IrType) × (n.all ≡ n.whole ∷ inner)
+abbrev HasFirst : Nested → Type 0
+HasFirst n = (inner : List IrType) × (n.all ≡ n.whole ∷ inner)
 
-level_begins : (x : IrType-F Nested) → Begins (nested_level x)
+level_begins : (x : IrType-F Nested) → HasFirst (nested_level x)
 level_begins (IrType-F.Int n) = ([], refl)
 level_begins IrType-F.Ptr = ([], refl)
 level_begins (IrType-F.Array at len e) = (e.all, refl)
 level_begins (IrType-F.Struct at fields packed) = (flat_map (λ (n : Nested). n.all) fields, refl)
 level_begins (IrType-F.Named name at) = ([], refl)
 
-begins : (t : IrType) → Begins (fold-IrType Nested nested_level t)
+begins : (t : IrType) → HasFirst (fold-IrType Nested nested_level t)
 begins =
-    by_variant (λ t. Begins (fold-IrType Nested nested_level t)) (λ n. subst Begins (sym (fold_int nested_level n)) (level_begins (IrType-F.Int n)))
-    (subst Begins (sym (fold_ptr nested_level)) (level_begins IrType-F.Ptr)) (λ name at. subst Begins (sym (fold_named nested_level name at)) (level_begins (IrType-F.Named name at)))
-    (λ at len e. subst Begins (sym (fold_array nested_level at len e)) (level_begins (IrType-F.Array at len (fold-IrType Nested nested_level e))))
-    (λ at fields packed. subst Begins (sym (fold_struct nested_level at fields packed)) (level_begins (IrType-F.Struct at (map (fold-IrType Nested nested_level) fields) packed)))
+    by_variant (λ t. HasFirst (fold-IrType Nested nested_level t)) (λ n. subst HasFirst (sym (fold_int nested_level n)) (level_begins (IrType-F.Int n)))
+    (subst HasFirst (sym (fold_ptr nested_level)) (level_begins IrType-F.Ptr)) (λ name at. subst HasFirst (sym (fold_named nested_level name at)) (level_begins (IrType-F.Named name at)))
+    (λ at len e. subst HasFirst (sym (fold_array nested_level at len e)) (level_begins (IrType-F.Array at len (fold-IrType Nested nested_level e))))
+    (λ at fields packed. subst HasFirst (sym (fold_struct nested_level at fields packed)) (level_begins (IrType-F.Struct at (map (fold-IrType Nested nested_level) fields) packed)))
 
 pub itself : (P : IrType → Type 0) (t : IrType) → AllByRecursion P (types_in t) → P t
 unfolding types_in
