@@ -1,6 +1,7 @@
 #!/usr/bin/env bash
-# How fast a module's text is read: its bytes in tokens, and then in a tree. The text is one module's functions and globals
-# over and over, of 1, 4 and 16 MiB. Where `llvm-as` is installed its time for the same text stands beside it.
+# How fast a module's text is read: its bytes in tokens, and then in a tree; and how fast `print` answers whole, which resolves names and
+# checks types too. The text is one module's functions and globals over and over, of 1, 4 and 16 MiB; `print` gets texts of 1/4, 1 and 4 MiB.
+# Where `llvm-as` is installed its time for the same text stands beside it.
 set -euo pipefail
 cd "$(dirname "$0")/../crates/bench_reader"
 rt run >/dev/null 2>&1 || { rt run >&2; exit 1; }
@@ -9,6 +10,8 @@ if [ -z "$program" ]; then
     echo "no program was built in $PWD/out" >&2
     exit 1
 fi
+chopper=$PWD/../../chopper.sh
+"$chopper" --version >/dev/null
 work=$(mktemp -d)
 trap 'rm -rf "$work"' EXIT
 # One copy of the module, its names with a number behind them.
@@ -50,6 +53,7 @@ text() {
     printf 'declare i32 @putchar(i32 noundef) #1\n'
     printf 'declare void @llvm.memcpy.p0.p0.i64(ptr noalias nocapture writeonly, ptr noalias nocapture readonly, i64, i1 immarg) #2\n'
     awk -v copy="$copy" -v bytes="$1" 'BEGIN { n = 0; while (done < bytes) { c = copy; gsub(/\.N/, "." n, c); print c; done += length(c) + 1; n++ } }'
+    printf 'define i32 @main() {\n  ret i32 0\n}\n'
     printf 'attributes #0 = { noinline nounwind optnone }\nattributes #1 = { nounwind }\nattributes #2 = { nounwind }\n'
 }
 # Microseconds of one run.
@@ -83,4 +87,17 @@ for mebibytes in 1 4 16; do
         printf "\n"; print r > "/dev/stderr";
     }' 2>"$work/state"
     last=$(tail -n 1 "$work/state")
+done
+last=0
+for kibibytes in 256 1024 4096; do
+    file=$work/print.ll
+    text $((kibibytes * 1024)) >"$file"
+    "$chopper" print "$file" >"$work/printed.ll" || { head -c 200 "$work/printed.ll"; exit 1; }
+    whole=$(spent "$chopper" print "$file")
+    awk -v whole="$whole" -v bytes="$(stat -c %s "$file")" -v k="$kibibytes" -v last="$last" 'BEGIN {
+        printf "print of %d KiB: %.2f MB/s", k, bytes / whole;
+        if (last > 0) printf ", %.2f times the time of the size before", whole / last;
+        printf "\n";
+    }'
+    last=$whole
 done

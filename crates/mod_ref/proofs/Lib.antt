@@ -1,1 +1,5 @@
 pub mod CallsChange
+pub mod Calling
+pub mod SitesAre
+pub mod OwnChanges
+pub mod Choosing
