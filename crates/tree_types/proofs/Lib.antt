@@ -3,3 +3,7 @@ pub mod Named
 pub mod Heads
 pub mod Enclosed
 pub mod Spelled
+pub mod Within
+pub mod Inner
+pub mod Meeting
+pub mod Telling

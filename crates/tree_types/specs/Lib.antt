@@ -1,2 +1,4 @@
 pub mod Rooms
 pub mod Alike
+pub mod Asked
+pub mod Met

@@ -3,6 +3,9 @@
 
 mod alike;
 mod names;
+mod nested;
+mod pieces;
+mod recursion;
 mod rooms;
 mod told;
 
