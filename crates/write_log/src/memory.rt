@@ -18,7 +18,7 @@ use term_store::Conditions;
 use terms::{Term, Terms};
 
 /// What a kind of memory keeps beside the log, to find there sooner what is asked.
-pub trait Index {
+pub trait Index: Drop {
     ghost use Rattle.std.specs.Prelude.{Bool};
     ghost use Rattle.write_log.specs.Memory.{Memory};
 
