@@ -7,9 +7,13 @@ mod items;
 mod lives;
 mod log;
 mod marks;
+mod memory;
 mod needs;
+mod plain;
 mod reading;
 mod totals;
 mod trail;
 
 pub use log::Log;
+pub use memory::{Index, Memory, SymMemory};
+pub use plain::Plain;
