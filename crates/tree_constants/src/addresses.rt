@@ -21,7 +21,7 @@ pub fn gep_offset(types: &[TypeDefinition], rooms: &[Option<Room>], gep: &ConstG
 {
     let mut offset = 0u64;
     let levels = gep.levels.as_slice();
-    'levels: for level in levels {
+    for level in levels {
         offset = offset.wrapping_add(level_offset(types, rooms, level));
     }
     offset

@@ -5,8 +5,13 @@
 mod addresses;
 mod bytes;
 mod constants;
+mod forms;
+mod indices;
+mod names;
 mod numbers;
+mod places;
 mod steps;
+mod telling;
 mod told;
 mod values;
 

@@ -14,7 +14,7 @@ pub fn gep_steps_fit(types: &[TypeDefinition], gep: &ConstGep) -> bool
     ensures { result ≡ is_empty (spec.bad_gep_steps types.now gep.now) }
 {
     let levels = gep.levels.as_slice();
-    'levels: for level in levels {
+    for level in levels {
         if bad_step(types, &level.source, level.indices.as_slice()).is_some() {
             return false;
         }
