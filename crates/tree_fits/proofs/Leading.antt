@@ -30,7 +30,7 @@ among_cases name (c ∷ cs) d = go (same c.label.text name) (among_cases name cs
     go true e = refl
     go false e = e
 
-eq_swap : (x y : ℕ) → (x == y) ≡ (y == x)
+pub eq_swap : (x y : ℕ) → (x == y) ≡ (y == x)
 eq_swap x y = go (x == y) refl
   where
     go : (b : Bool) → (x == y) ≡ b → b ≡ (y == x)

@@ -2,9 +2,19 @@
 //! `ir_programs`.
 #![tactic(auto)]
 
+mod calls;
+mod clashes;
 mod edges;
 mod marked;
+mod operations;
 mod phis;
+mod sets;
+mod signatures;
 mod spelled;
+mod steps;
+#[cfg(test)]
+mod tests;
+mod values;
 
+pub use clashes::clashes_of;
 pub use edges::bad_edges_of;
