@@ -3,7 +3,6 @@ use Rattle.std.specs.Prelude.{◌≡◌, ℕ, List, Result, Ok, Err}
 use Rattle.std.specs.List.{flat_map, Contains}
 use Rattle.flat_ir.specs.declared.program.ProgramData.{ProgramData}
 use Rattle.ir_tree.specs.declared.module.IrTree.{IrTree}
-use Rattle.ir_tree.specs.declared.types.Name.{Name}
 use Rattle.ir_programs.specs.declared.refusals.Cause.{Cause}
 use Rattle.ir_programs.specs.declared.refusals.Cause.TheVariants as causes
 use Rattle.ir_programs.specs.Answers.{Resolved, Refused, NoMain, answer}

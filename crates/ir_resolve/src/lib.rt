@@ -2,7 +2,16 @@
 #![tactic(auto)]
 
 mod answering;
+mod callees;
+mod cases;
 mod error;
+mod errors;
+mod functions;
+mod mains;
+mod names;
+mod program;
+mod telling;
+mod told;
 
 pub use answering::resolve;
 pub use error::ResolveError;
