@@ -1,0 +1,16 @@
+pub mod Lists
+pub mod Types
+pub mod Names
+pub mod Refused
+pub mod Known
+pub mod Operands
+pub mod Instructions
+pub mod Blocks
+pub mod Callees
+pub mod Registers
+pub mod Globals
+pub mod Facts
+pub mod Functions
+pub mod Main
+pub mod Law
+pub mod Answered
