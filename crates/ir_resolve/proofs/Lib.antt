@@ -1,1 +1,7 @@
-pub mod Whole
+pub mod Merging
+pub mod Telling_more
+pub mod Ordering
+pub mod Reading
+pub mod Casing
+pub mod Concluding
+pub mod Calling

@@ -1,9 +1,17 @@
-//! The program of a module's tree.
+//! The program of a module's tree, or the first refusal.
 #![tactic(auto)]
 
+mod answering;
+mod callees;
+mod cases;
+mod error;
+mod errors;
+mod functions;
+mod mains;
 mod names;
-mod nodes;
-mod programs;
+mod program;
+mod telling;
+mod told;
 
-pub use names::{Local, Named};
-pub use programs::resolve;
+pub use answering::resolve;
+pub use error::ResolveError;

@@ -1,231 +1,132 @@
-//! The names of a function: its blocks and its registers share one space (Language Reference, "Identifiers").
-ghost use Rattle.std.specs.Prelude.{◌≡◌, ◌+◌, ◌++◌, ◌∷◌, [], ◌&&◌, nat_le, length, IfOk};
-ghost use Rattle.std.specs.Fmt.{decimal};
-ghost use Rattle.ir_tree.specs.Texts as texts;
-ghost use Rattle.ir_grammar.specs.Numbering as numbering;
-ghost use Rattle.ir_grammar.specs.Tokens.{are_digits as digits_in};
-ghost use Rattle.ir_resolve.specs.Names as spec;
+//! The names of globals and functions.
+ghost use Rattle.std.specs.Prelude.{◌≡◌, ◌++◌, ◌&&◌, ◌||◌, nat_lt, map, IfOk};
+ghost use Rattle.std.specs.List.{list_any};
+ghost use Rattle.ir_tree.specs.Texts.{same};
+ghost use Rattle.ir_programs.specs.declared.refusals.Cause.TheVariants.{DuplicateName, ReservedName};
+ghost use Rattle.ir_programs.specs.Causes.{duplicate_globals, reserved_names};
+ghost use Rattle.ir_programs.specs.Texts.{among, texts, places_where};
+ghost use Rattle.ir_programs.specs.Uses as spec;
+ghost use Rattle.ir_resolve.specs.Telling.{told_of};
 
-use flat_ir::{NodeId, RegId};
-use ir_tree::instructions::{Block, Instruction, Operation};
-use ir_tree::types::{IrType, Name};
-use plain_list::Sequence;
+use crate::telling::noted_if;
+use ir_programs::{Cause, Refusal, copied, is_same};
+use ir_tree::module::{FunctionDefinition, GlobalDefinition, IrTree};
+use ir_tree::types::Name;
+use prelude::{find, find_primitive};
 use std::alloc::{AllocError, Global};
 
-/// What a name of a function stands for: a register with its number of bits, or a block, by its first node.
-#[derive(Clone, Copy, Debug)]
-pub enum Local {
-    Register(RegId, u8),
-    Label(NodeId),
-}
-
-/// A name, and what it stands for.
-#[derive(Drop)]
-pub struct Named {
-    pub name: Sequence<u8>,
-    pub local: Local,
-}
-
-/// Whether two names are one.
-pub fn is_same(a: &[u8], b: &[u8]) -> bool
-    ensures { result ≡ texts.same a.now b.now }
-{
-    a == b
-}
-
-fn text_of<'a>(name: &'a Option<Name>) -> &'a [u8]
-    ensures { result.now ≡ spec.text_of name.now }
-{
-    match name {
-        Some(name) => name.text.as_slice(),
-        None => &[],
-    }
-}
-
-/// The number of bits of an integer type.
-pub fn width_of(kind: &IrType) -> Option<u8>
-    ensures { result ≡ spec.width_of kind.now }
-{
-    match kind {
-        IrType::Int(width) => Some(*width),
-        _ => None,
-    }
-}
-
-fn result_width(operation: &Operation) -> u8
-    ensures { result ≡ spec.result_width operation.now }
-{
-    match operation {
-        Operation::Binary { width, .. } => *width,
-        Operation::Compare { .. } => 1,
-        Operation::Cast { to, .. } => *to,
-        Operation::Select { a, .. } => width_of(&a.kind).unwrap_or(0),
-        Operation::Call { .. } => 32,
-        _ => 0,
-    }
-}
-
-/// The number behind a number. One of 32 bits that has none is refused as want of memory.
-pub fn next(number: u32) -> Result<u32, AllocError>
-    ensures { IfOk result (λ more. more ≡ number + 1) }
-{
-    if number == u32::MAX {
-        return Err(AllocError);
-    }
-    Ok(number + 1)
-}
-
-// A name at the end of the list.
-fn push(alloc: Global, names: &mut Vec<Named>, name: &[u8], local: Local) -> Result<(), AllocError>
-    ensures { IfOk result (λ u. names.new.items ≡ names.old.items ++ (spec.named name.now local ∷ [])) }
-{
-    let name = Sequence::from_slice(alloc, name)?;
-    names.push(Named { name, local })?;
-    Ok(())
-}
-
-// The registers that instructions set, numbered from `register` on.
-fn push_results(
+fn push_globals(
     alloc: Global,
-    names: &mut Vec<Named>,
-    register: u32,
-    instructions: &[Instruction],
+    names: &mut Vec<Name>,
+    globals: &[GlobalDefinition],
 ) -> Result<(), AllocError>
-    ensures { IfOk result (λ u. names.new.items ≡ names.old.items ++ spec.named_results register instructions.now) }
+    ensures { IfOk result (λ u. names.new.items ≡ names.old.items ++ map (λ g. g.name) globals.now) }
 {
-    let mut at = register;
-    'instructions: for instruction in instructions {
-        let local = Local::Register(RegId(at), result_width(&instruction.operation));
-        push(alloc, names, text_of(&instruction.result), local)?;
-        at = next(at)?;
+    'each: for global in globals {
+        names.push(copied(alloc, &global.name)?)?;
     }
     Ok(())
 }
 
-/// The number behind the registers of a block.
-pub fn behind_all(register: u32, instructions: &[Instruction]) -> Result<u32, AllocError>
-    ensures { IfOk result (λ next. next ≡ register + length instructions.now) }
+fn push_functions(
+    alloc: Global,
+    names: &mut Vec<Name>,
+    functions: &[FunctionDefinition],
+) -> Result<(), AllocError>
+    ensures { IfOk result (λ u. names.new.items ≡ names.old.items ++ map (λ f. f.header.name) functions.now) }
 {
-    let room = (u32::MAX - register) as usize;
-    if instructions.len() > room {
-        return Err(AllocError);
+    'each: for function in functions {
+        names.push(copied(alloc, &function.header.name)?)?;
     }
-    Ok(register + instructions.len() as u32)
+    Ok(())
 }
 
-/// The number behind the nodes of a block.
-pub fn behind(node: u32, instructions: &[Instruction]) -> Result<u32, AllocError>
-    ensures { IfOk result (λ next. next ≡ node + length instructions.now + 1) }
-{
-    let room = (u32::MAX - node) as usize;
-    if instructions.len() >= room {
-        return Err(AllocError);
-    }
-    Ok(node + instructions.len() as u32 + 1)
-}
-
-/// The names of blocks, in the order of the text.
-pub fn names_in(alloc: Global, blocks: &[Block]) -> Result<Vec<Named>, AllocError>
-    ensures { IfOk result (λ names. names.items ≡ spec.named_in 0 0 blocks.now) }
+/// The names of globals and functions, which share one space.
+fn names_of(alloc: Global, tree: &IrTree) -> Result<Vec<Name>, AllocError>
+    ensures { IfOk result (λ names. names.items ≡ spec.global_names tree.now ++ spec.function_names tree.now) }
 {
     let mut names = Vec::new(alloc);
-    let mut register = 0;
-    let mut node = 0;
-    'each: for block in blocks {
-        push(
-            alloc,
-            &mut names,
-            text_of(&block.label),
-            Local::Label(NodeId(node)),
-        )?;
-        push_results(alloc, &mut names, register, block.instructions.as_slice())?;
-        register = behind_all(register, block.instructions.as_slice())?;
-        node = behind(node, block.instructions.as_slice())?;
-    }
+    push_globals(alloc, &mut names, tree.globals.as_slice())?;
+    push_functions(alloc, &mut names, tree.functions.as_slice())?;
     Ok(names)
 }
 
-/// What a name stands for.
-pub fn found(name: &[u8], names: &[Named]) -> Option<Local>
-    ensures { result ≡ spec.found name.now names.now }
+fn is_before(other: &Name, name: &Name) -> bool
+    ensures { result ≡ (same other.now.text name.now.text && nat_lt other.now.at name.now.at) }
 {
-    'names: for named in names {
-        if is_same(named.name.as_slice(), name) {
-            return Some(named.local);
-        }
-    }
-    None
+    is_same(other.text.as_slice(), name.text.as_slice()) && other.at < name.at
 }
 
-fn is_among(name: &[u8], names: &[Named]) -> bool
-    ensures { result ≡ spec.is_among name.now names.now }
+/// Whether the name stands at a lower place too.
+fn stands_before(names: &[Name], name: &Name) -> bool
+    ensures { result ≡ spec.stands_before names.now name.now }
 {
-    'names: for named in names {
-        if is_same(named.name.as_slice(), name) {
+    'each: for other in names {
+        if is_before(other, name) {
             return true;
         }
     }
     false
 }
 
-/// Whether no name stands twice.
-pub fn are_distinct(names: &[Named]) -> bool
-    ensures { result ≡ spec.are_distinct names.now }
+/// Whether a module may call the function without defining it.
+pub fn is_reserved(name: &[u8]) -> bool
+    ensures { result ≡ spec.is_reserved name.now }
 {
-    'places: for place in 0..names.len() {
-        if is_among(names[place].name.as_slice(), &names[place + 1..]) {
-            return false;
+    find(name).is_some() || find_primitive(name).is_some()
+}
+
+/// Whether a function of the module has this name.
+pub fn is_defined(functions: &[FunctionDefinition], name: &[u8]) -> bool
+    ensures { result ≡ among name.now (texts (map (λ f. f.header.name) functions.now)) }
+{
+    'each: for function in functions {
+        if is_same(function.header.name.text.as_slice(), name) {
+            return true;
         }
     }
-    true
+    false
 }
 
-fn is_digit(byte: u8) -> bool
-    ensures { result ≡ nat_le 48 byte && nat_le byte 57 }
+/// Whether it is a function of the module or a known one.
+pub fn is_function(tree: &IrTree, name: &[u8]) -> bool
+    ensures { result ≡ spec.is_function tree.now name.now }
 {
-    48 <= byte && byte <= 57
+    is_defined(tree.functions.as_slice(), name) || is_reserved(name)
 }
 
-fn are_digits(text: &[u8]) -> bool
-    ensures { result ≡ digits_in text.now }
+fn duplicates_told(told: Option<Refusal>, names: &[Name]) -> Option<Refusal>
+    ensures { result ≡ told_of DuplicateName told (places_where (spec.stands_before names.now) names.now) }
 {
-    'bytes: for byte in text {
-        if !is_digit(*byte) {
-            return false;
-        }
+    let mut now = told;
+    'each: for name in names {
+        let fails = stands_before(names, name);
+        now = noted_if(now, Cause::DuplicateName, name.at, fails);
     }
-    true
+    now
 }
 
-fn is_number(name: &[u8]) -> bool
-    ensures { result ≡ numbering.is_number name.now }
+fn reserved_told(told: Option<Refusal>, names: &[Name]) -> Option<Refusal>
+    ensures { result ≡ told_of ReservedName told (places_where (λ n. spec.is_reserved n.text) names.now) }
 {
-    if name.is_empty() {
-        false
-    } else {
-        are_digits(name)
+    let mut now = told;
+    'each: for name in names {
+        let fails = is_reserved(name.text.as_slice());
+        now = noted_if(now, Cause::ReservedName, name.at, fails);
     }
+    now
 }
 
-fn is_decimal(alloc: Global, name: &[u8], number: u64) -> Result<bool, AllocError>
-    ensures { IfOk result (λ is. is ≡ texts.same name.now (decimal number)) }
+/// What is told once the names of globals and functions are looked at: none is to stand twice, and none is to be that of a
+/// known function.
+pub fn names_told(
+    alloc: Global,
+    told: Option<Refusal>,
+    tree: &IrTree,
+) -> Result<Option<Refusal>, AllocError>
+    ensures { IfOk result (λ now. now ≡ told_of ReservedName (told_of DuplicateName told (duplicate_globals tree.now)) (reserved_names tree.now)) }
 {
-    let written = format!(in alloc; "{number}")?;
-    Ok(is_same(name, written.as_bytes()))
-}
-
-/// Whether the names that are numbers are the next ones of a counter, in the order of the text.
-pub fn are_counted(alloc: Global, names: &[Named]) -> Result<bool, AllocError>
-    ensures { IfOk result (λ are. are ≡ spec.are_counted 0 names.now) }
-{
-    let mut number = 0;
-    'names: for named in names {
-        if is_number(named.name.as_slice()) {
-            if !is_decimal(alloc, named.name.as_slice(), number)? {
-                return Ok(false);
-            }
-            number += 1;
-        }
-    }
-    Ok(true)
+    let names = names_of(alloc, tree)?;
+    let told = duplicates_told(told, names.as_slice());
+    Ok(reserved_told(told, names.as_slice()))
 }

@@ -1,0 +1,8 @@
+use Rattle.ir_programs.specs.Locals as locals
+use Rattle.ir_programs.specs.declared.refusals.Cause.TheVariants.{DuplicateName}
+use Rattle.ir_resolve.proofs.Telling_more.{next_places}
+use Rattle.ir_resolve.proofs.functions.all_repeats_told.Goals as goal
+
+pub each-preserved : goal.each-preserved
+each-preserved c =
+    next_places locals.repeated_locals DuplicateName c.each.now c.in_ok-now.now _ c.args.functions.now c.each.function-index c.function-item.result c.each-test.true c.function-item.is c.in_ok-now.ensures c.each.invariant

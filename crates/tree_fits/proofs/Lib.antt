@@ -1,0 +1,4 @@
+pub mod Tokens
+pub mod Leading
+pub mod Pushing
+pub mod Known

@@ -1,0 +1,9 @@
+use Rattle.std.proofs.Common.{◌≡◌, drop, map}
+use Rattle.std.specs.List.{list_all, flat_map, filter, find as find_in}
+use Rattle.ir_programs.specs.Parts as parts
+use Rattle.ir_programs.specs.Fits as spec
+use Rattle.flat_ir.specs.declared.nodes.RegType.TheVariants as type
+use Rattle.tree_fits.proofs.operations.indices_fit.Given as goal
+
+abbrev pub invariant-each : goal.invariant-each
+invariant-each l = list_all (spec.value_fits l.place.tree.now l.place.function.now) (map (λ i. parts.written (type.Int i.width) i.value) l.indices) ≡ list_all (spec.value_fits l.place.tree.now l.place.function.now) (map (λ i. parts.written (type.Int i.width) i.value) (drop l.index-index l.indices))
