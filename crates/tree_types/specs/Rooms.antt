@@ -1,10 +1,10 @@
 -- Rooms of the types of a module, each told once.
-use Rattle.std.specs.Prelude.{ℕ, List, [], ◌∷◌, length, map, Option}
+use Rattle.std.specs.Prelude.{ℕ, ◌≤◌, List, [], ◌∷◌, length, map, Option}
 use Rattle.layout.specs.Layout.{Extent}
 use Rattle.ir_tree.specs.declared.layouts.Room.{Room}
 use Rattle.ir_tree.specs.declared.module.TypeDefinition.{TypeDefinition}
 use Rattle.ir_tree.specs.Extents.{Agrees}
-use Rattle.ir_tree.specs.Layout.{name_within}
+use Rattle.ir_tree.specs.Layout.{most, name_within}
 
 -- each room is that of its extent: the size up to the most, and the alignment
 abbrev pub AllAgree : List (Option Room) → List (Option Extent) → Type 0
@@ -23,3 +23,11 @@ AreRoomsWithin n types rooms = AllAgree rooms (names_within n types types)
 -- what each definition's name stands for takes
 abbrev pub AreRooms : List TypeDefinition → List (Option Room) → Type 0
 AreRooms types rooms = AreRoomsWithin (length types) types rooms
+
+-- the same through some number of names
+abbrev pub AreSomeRooms : List TypeDefinition → List (Option Room) → Type 0
+AreSomeRooms types rooms = (n : ℕ) × AreRoomsWithin n types rooms
+
+-- sizes are told up to the most, and no alignment is more than 8
+abbrev pub IsSmall : Room → Type 0
+IsSmall r = (1 ≤ r.align) × (r.align ≤ 8) × (r.size ≤ most)

@@ -27,7 +27,7 @@ pub fn head_of<'a>(types: &'a [TypeDefinition], kind: &'a IrType) -> &'a IrType
     ensures { out-IrType result.now ≡ spec.head_of types.now kind.now }
 {
     let mut head = kind;
-    'names: for _ in 0..types.len() {
+    'names: for place in 0..types.len() {
         head = behind_name(types, head);
     }
     head
