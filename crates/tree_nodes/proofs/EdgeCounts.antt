@@ -1,7 +1,5 @@
 -- Numbers behind those of edges.
-use Rattle.std.proofs.Common.{◌≡◌, ◌∙◌, ℕ, ◌+◌, List, [], ◌∷◌, ◌++◌, length, map, drop, Some, arith}
-use Rattle.std.specs.Prelude.{slice_get, Bool}
-use Rattle.std.specs.List.{filter}
+use Rattle.std.proofs.Common.{◌≡◌, ◌∙◌, ℕ, ◌+◌, List, [], ◌∷◌, ◌++◌, length, map, arith}
 use Rattle.ir_tree.specs.declared.types.Name.{Name}
 use Rattle.ir_tree.specs.declared.instructions.Case.{Case}
 use Rattle.ir_tree.specs.declared.instructions.Phi.{Phi}

@@ -1,14 +1,13 @@
 -- Nodes of edges, and of blocks one behind the other.
 use Rattle.std.proofs.Common.{◌≡◌, ◌∙◌, ℕ, suc, ◌+◌, ◌<◌, List, [], ◌∷◌, ◌++◌, map, length, drop, get_or, refl, sym, ap, append_assoc, add-one, drop-cons}
 use Rattle.std.proofs.lemmas.List.{map-append}
-use Rattle.std.specs.List.{flat_map}
 use Rattle.flat_ir.specs.declared.nodes.Node.{Node}
 use Rattle.ir_tree.specs.declared.types.Name.{Name}
 use Rattle.ir_tree.specs.declared.instructions.Block.{Block}
 use Rattle.ir_tree.specs.declared.instructions.Instruction.{Instruction}
 use Rattle.ir_tree.specs.declared.module.FunctionDefinition.{FunctionDefinition}
 use Rattle.ir_tree.specs.declared.module.IrTree.{IrTree}
-use Rattle.ir_programs.specs.Flow.{at, Edge, edge_if, phis_of, size_of_block, block_edges}
+use Rattle.ir_programs.specs.Flow.{at, edge_if, phis_of, size_of_block, block_edges}
 use Rattle.ir_programs.specs.Nodes.{edge_node, instruction_node, instruction_nodes, terminator_node, nodes_from}
 use Rattle.tree_nodes.specs.Edges.{edges_to, target_nodes}
 

@@ -1,5 +1,5 @@
 -- Widths that numbers can have.
-use Rattle.std.proofs.Common.{◌≡◌, ◌∙◌, ℕ, true, List, refl, sym, ap, subst, leb-true}
+use Rattle.std.proofs.Common.{◌≡◌, ◌∙◌, ℕ, true, sym, subst, leb-true}
 use Rattle.bitnum.specs.Number.{IsWidth}
 use Rattle.phrases.proofs.Classes.{and_left, and_right}
 use Rattle.ir_tree.specs.declared.types.IrType.{IrType, fold-roll-IrType, ind-IrType, out-roll-IrType, roll-IrType, map-IrType}

@@ -9,7 +9,7 @@ ghost use Rattle.ir_programs.specs.Registers.{function_of as function_in};
 
 use crate::names::{narrow, number_of};
 use crate::operands::{number, operand_of};
-use crate::scope::{Whole, Scope};
+use crate::scope::{Scope, Whole};
 use flat_ir::{FuncId, Node, NodeId, Operand, RegId};
 use ir_programs::register_type;
 use ir_tree::instructions::Typed;

@@ -136,7 +136,9 @@ fn push_targets(
         TerminatorForm::Return(_) | TerminatorForm::Unreachable => Ok(()),
         TerminatorForm::Jump(to) => push_edge(alloc, scope, nodes, source, to),
         TerminatorForm::Branch {
-            if_true, if_false, ..
+            if_true,
+            if_false,
+            ..
         } => {
             push_edge(alloc, scope, nodes, source, if_true)?;
             push_edge(alloc, scope, nodes, source, if_false)

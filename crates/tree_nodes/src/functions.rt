@@ -49,11 +49,7 @@ fn is_named(text: &[u8], names: &[Name]) -> bool
     false
 }
 
-fn push_if_named(
-    funcs: &mut Vec<Func>,
-    names: &[Name],
-    func: Func,
-) -> Result<(), AllocError>
+fn push_if_named(funcs: &mut Vec<Func>, names: &[Name], func: Func) -> Result<(), AllocError>
     ensures { IfOk result (λ u. funcs.new.items ≡ funcs.old.items ++ filter (λ (g : Func). among g.name (texts names.now)) (func ∷ [])) }
 {
     if is_named(func.name.as_slice(), names) {

@@ -130,12 +130,7 @@ fn alloca_node(scope: &Scope, ends: Ends, kind: &IrType) -> Node
     }
 }
 
-fn load_node(
-    scope: &Scope,
-    ends: Ends,
-    kind: &IrType,
-    pointer: &Value,
-) -> Result<Node, AllocError>
+fn load_node(scope: &Scope, ends: Ends, kind: &IrType, pointer: &Value) -> Result<Node, AllocError>
     requires { IsTrue (is_readable_operation (operations.Load kind.now pointer.now)) }
     ensures { IfOk result (λ node. node ≡ spec.operation_node scope.now.whole.now.tree.now scope.now.function.now ends.register ends.set ends.next (operations.Load kind.now pointer.now)) }
 {
@@ -215,10 +210,18 @@ fn operation_node<'a>(
             indices,
         } => gep_node(alloc, scope, ends, source, pointer, indices),
         Operation::Call {
-            callee, arguments, ..
+            callee,
+            arguments,
+            ..
         } => {
             let args = operands_of(alloc, scope, arguments.as_slice())?;
-            call_node(scope.whole, callee.text.as_slice(), args, ends.set, ends.next)
+            call_node(
+                scope.whole,
+                callee.text.as_slice(),
+                args,
+                ends.set,
+                ends.next,
+            )
         }
     }
 }

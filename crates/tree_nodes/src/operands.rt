@@ -10,7 +10,7 @@ ghost use Rattle.ir_programs.specs.Registers as registers;
 ghost use Rattle.tree_nodes.specs.Widths.{HasWidth};
 
 use crate::names::{narrow, number_of};
-use crate::scope::{Whole, Scope};
+use crate::scope::{Scope, Whole};
 use bitnum::Num;
 use flat_ir::{Operand, RegId, RegType};
 use ir_tree::constants::{Integer, Value, ValueForm};

@@ -98,7 +98,9 @@ pub(crate) fn behind_block(
         TerminatorForm::Return(_) | TerminatorForm::Unreachable => Ok(k),
         TerminatorForm::Jump(to) => behind(function, k, to),
         TerminatorForm::Branch {
-            if_true, if_false, ..
+            if_true,
+            if_false,
+            ..
         } => behind(function, behind(function, k, if_true)?, if_false),
         TerminatorForm::Switch { default, cases, .. } => {
             behind_switch(function, k, cases.as_slice(), default)

@@ -10,5 +10,6 @@ invariant-steps l =
     let types = l.scope.whole.now.tree.now.types in
     let step = step_of l.scope.whole.now.tree.now l.scope.function.now in
     record {
-  made : l.parts.items ++ parts_within types l.kind (map step (drop l.index-index l.indices)) ≡ l.initial.parts.items ++ parts_within types l.fn.source (map step l.indices);
-  readable : IsTrue (list_all is_readable_index (drop l.index-index l.indices)) }
+      made : l.parts.items ++ parts_within types l.kind (map step (drop l.index-index l.indices)) ≡ l.initial.parts.items ++ parts_within types l.fn.source (map step l.indices);
+      readable : IsTrue (list_all is_readable_index (drop l.index-index l.indices));
+    }

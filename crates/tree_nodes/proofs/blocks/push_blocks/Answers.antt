@@ -21,7 +21,7 @@ loop-block-preserved c =
     let next : drop l.block-index xs ≡ b ∷ rest = item_next xs l.block-index b within c.block-item.is in
     record {
       made = block_more t f l.first l.edge c.in_ok-first.first c.in_ok-edge-2.edge b rest l.nodes.items c.push_block.new.nodes.items all
-        c.in_ok-first.ensures.behind c.in_ok-edge-2.ensures c.in_ok-first.ensures.nodes
-        (subst (λ (ys : List Block). l.nodes.items ++ nodes_from t f l.first l.edge ys ≡ all) next l.invariant.made);
+          c.in_ok-first.ensures.behind c.in_ok-edge-2.ensures c.in_ok-first.ensures.nodes
+          (subst (λ (ys : List Block). l.nodes.items ++ nodes_from t f l.first l.edge ys ≡ all) next l.invariant.made);
       readable = and_right (is_readable_block b) (list_all is_readable_block rest) (subst (λ (ys : List Block). IsTrue (list_all is_readable_block ys)) next l.invariant.readable);
     }

@@ -10,5 +10,6 @@ invariant-loop-block l =
     let t = l.scope.whole.now.tree.now in
     let f = l.scope.function.now in
     record {
-  made : l.nodes.items ++ nodes_from t f l.first l.edge (drop l.block-index l.blocks) ≡ l.initial.nodes.items ++ nodes_from t f 0 (node_count f.blocks) f.blocks;
-  readable : IsTrue (list_all is_readable_block (drop l.block-index l.blocks)) }
+      made : l.nodes.items ++ nodes_from t f l.first l.edge (drop l.block-index l.blocks) ≡ l.initial.nodes.items ++ nodes_from t f 0 (node_count f.blocks) f.blocks;
+      readable : IsTrue (list_all is_readable_block (drop l.block-index l.blocks));
+    }

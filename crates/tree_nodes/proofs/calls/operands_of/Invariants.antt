@@ -8,4 +8,5 @@ use Rattle.tree_nodes.proofs.calls.operands_of.Given as goal
 abbrev pub invariant-loop-argument : goal.invariant-loop-argument
 invariant-loop-argument l = record {
   made : l.operands ++ operands_of l.scope.whole.now.tree.now l.scope.function.now (map typed (drop l.argument-index l.arguments)) ≡ operands_of l.scope.whole.now.tree.now l.scope.function.now (map typed l.arguments);
-  readable : IsTrue (list_all is_readable_typed (drop l.argument-index l.arguments)) }
+  readable : IsTrue (list_all is_readable_typed (drop l.argument-index l.arguments));
+}

@@ -9,5 +9,6 @@ invariant-loop-phi l =
     let t = l.scope.whole.now.tree.now in
     let f = l.scope.function.now in
     record {
-  made : l.sets.items ++ edge_sets_of t f l.source (drop l.phi-index l.phis) ≡ edge_sets_of t f l.source l.phis;
-  readable : IsTrue (list_all is_readable_phi (drop l.phi-index l.phis)) }
+      made : l.sets.items ++ edge_sets_of t f l.source (drop l.phi-index l.phis) ≡ edge_sets_of t f l.source l.phis;
+      readable : IsTrue (list_all is_readable_phi (drop l.phi-index l.phis));
+    }

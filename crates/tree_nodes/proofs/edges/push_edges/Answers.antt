@@ -10,4 +10,4 @@ returns c =
     let s = c.args.scope.now in
     let b = c.args.block.now in
     subst (λ (xs : List Node). IfOk c.push_targets.result (λ u. c.push_targets.new.nodes.items ≡ c.args.nodes.now.items ++ xs))
-      (mapped s.whole.now.tree.now s.function.now (label_of b) (targets b.terminator.form)) c.push_targets.ensures
+    (mapped s.whole.now.tree.now s.function.now (label_of b) (targets b.terminator.form)) c.push_targets.ensures

@@ -17,6 +17,6 @@ loop-instruction-preserved c =
     let next : drop l.instruction-index xs ≡ i ∷ rest = item_next xs l.instruction-index i within c.instruction-item.is in
     record {
       made = instruction_more s.whole.now.tree.now s.function.now l.number c.in_ok-number.number i (drop l.instruction-index xs) rest l.nodes.items c.push.new.self.items _ c.in_ok-node.node
-        c.in_ok-number.ensures next c.in_ok-node.ensures c.in_ok-push.ensures.items l.invariant.made;
+          c.in_ok-number.ensures next c.in_ok-node.ensures c.in_ok-push.ensures.items l.invariant.made;
       readable = and_right (is_readable_instruction i) (list_all is_readable_instruction rest) (subst (λ (ys : List Instruction). IsTrue (list_all is_readable_instruction ys)) next l.invariant.readable);
     }

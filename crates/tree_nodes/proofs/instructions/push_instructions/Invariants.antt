@@ -9,5 +9,6 @@ invariant-loop-instruction l =
     let t = l.scope.whole.now.tree.now in
     let f = l.scope.function.now in
     record {
-  made : l.nodes.items ++ instruction_nodes t f l.number (drop l.instruction-index l.instructions) ≡ l.initial.nodes.items ++ instruction_nodes t f l.fn.first l.instructions;
-  readable : IsTrue (list_all is_readable_instruction (drop l.instruction-index l.instructions)) }
+      made : l.nodes.items ++ instruction_nodes t f l.number (drop l.instruction-index l.instructions) ≡ l.initial.nodes.items ++ instruction_nodes t f l.fn.first l.instructions;
+      readable : IsTrue (list_all is_readable_instruction (drop l.instruction-index l.instructions));
+    }

@@ -14,9 +14,9 @@ returns-in-Switch c =
     let b = c.args.block.now in
     let default = c.in-Switch.default in
     IfOk-weaker c.behind_switch.result
-      (λ n. (source : List ℕ) → n ≡ c.args.k + length (edges_to f source (map case_label c.as_slice.result.now ++ default ∷ [])))
-      (λ n. n ≡ c.args.k + length (block_edges f b))
-      (λ n is. is (label_of b)
-        ∙ (ap (λ (cs : List Case). c.args.k + length (edges_to f (label_of b) (map case_label cs ++ default ∷ []))) c.as_slice.ensures
-        ∙ ap (λ (form : TerminatorForm). c.args.k + length (edges_to f (label_of b) (targets form))) (sym c.in-Switch.is)))
-      c.behind_switch.ensures
+    (λ n. (source : List ℕ) → n ≡ c.args.k + length (edges_to f source (map case_label c.as_slice.result.now ++ default ∷ [])))
+    (λ n. n ≡ c.args.k + length (block_edges f b))
+    (λ n is. is (label_of b)
+    ∙ (ap (λ (cs : List Case). c.args.k + length (edges_to f (label_of b) (map case_label cs ++ default ∷ []))) c.as_slice.ensures
+    ∙ ap (λ (form : TerminatorForm). c.args.k + length (edges_to f (label_of b) (targets form))) (sym c.in-Switch.is)))
+    c.behind_switch.ensures

@@ -12,5 +12,5 @@ returns c =
     let cases = c.args.cases.now in
     let default = c.args.default.now in
     IfOk-weaker c.behind.result (λ n. n ≡ behind f c.in_ok-behind_cases.field-0 default)
-      (λ n. (source : List ℕ) → n ≡ c.args.k + length (edges_to f source (map case_label cases ++ default ∷ [])))
-      (λ n is source. is ∙ (ap (λ (k : ℕ). behind f k default) c.in_ok-behind_cases.ensures ∙ behind_all f source c.args.k cases default)) c.behind.ensures
+    (λ n. (source : List ℕ) → n ≡ c.args.k + length (edges_to f source (map case_label cases ++ default ∷ [])))
+    (λ n is source. is ∙ (ap (λ (k : ℕ). behind f k default) c.in_ok-behind_cases.ensures ∙ behind_all f source c.args.k cases default)) c.behind.ensures
