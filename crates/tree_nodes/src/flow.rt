@@ -23,7 +23,8 @@ pub fn label_of(block: &Block) -> &[u8]
     }
 }
 
-fn size_of_block(block: &Block) -> Result<u32, AllocError>
+/// How many nodes a block has.
+pub(crate) fn size_of_block(block: &Block) -> Result<u32, AllocError>
     ensures { IfOk result (λ n. n ≡ spec.size_of_block block.now) }
 {
     counted_on(narrow(block.instructions.len())?, 1)

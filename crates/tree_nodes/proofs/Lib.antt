@@ -1,0 +1,5 @@
+pub mod Widths
+pub mod Readables
+pub mod EdgeCounts
+pub mod Kept
+pub mod EdgeNodes

@@ -1,0 +1,4 @@
+pub mod Widths
+pub mod Seen
+pub mod Edges
+pub mod Rooms
