@@ -1,6 +1,7 @@
 //! Indices of constant pointers that don't fit their own widths.
 ghost use Rattle.std.specs.Prelude.{◌≡◌, map, not};
 ghost use Rattle.std.specs.List.{flat_map, filter};
+ghost use Rattle.ir_programs.specs.Constants.{unless_fits};
 ghost use Rattle.ir_programs.specs.declared.refusals.Cause.TheVariants.{BadInitialiser};
 ghost use Rattle.tree_constants.specs.Telling.{told_at, index_fits};
 
@@ -9,13 +10,19 @@ use crate::telling::noted_unless;
 use ir_programs::{Cause, Refusal};
 use ir_tree::constants::{ConstIndex, GepLevel};
 
+fn index_told(told: Option<Refusal>, index: &ConstIndex) -> Option<Refusal>
+    ensures { result ≡ told_at BadInitialiser told (unless_fits (index_fits index.now) index.now.at) }
+{
+    let fits = is_of_width(index.width, index.value);
+    noted_unless(told, fits, Cause::BadInitialiser, index.at)
+}
+
 fn level_told(told: Option<Refusal>, indices: &[ConstIndex]) -> Option<Refusal>
     ensures { result ≡ told_at BadInitialiser told (map (λ i. i.at) (filter (λ i. not (index_fits i)) indices.now)) }
 {
     let mut now = told;
     for index in indices {
-        let fits = is_of_width(index.width, index.value);
-        now = noted_unless(now, fits, Cause::BadInitialiser, index.at);
+        now = index_told(now, index);
     }
     now
 }

@@ -6,5 +6,5 @@ mod rooms;
 mod told;
 
 pub use names::{head_of, kind_of, step_into};
-pub use rooms::{field_offset, rooms_of, size_of};
+pub use rooms::{end_of_fields, field_offset, rooms_of, size_of};
 pub use told::types_told;
