@@ -10,7 +10,7 @@ use Rattle.ir_programs.specs.Addresses.{field_offset}
 use Rattle.ir_programs.specs.Programs.{padded, fields_from, number_bytes, constant_bytes}
 use Rattle.tree_constants.proofs.OneByOne.{rest_less}
 
-abbrev zeros : ℕ → List InitByte
+abbrev pub zeros : ℕ → List InitByte
 zeros n = replicate n (init.Int 0)
 
 left : (start inner size : ℕ) → start + size - (start + inner) ≡ size - inner
@@ -50,3 +50,14 @@ one_byte count place rest all next whole lt ne before =
     let more = number_bytes (count - (place + 1)) (rest / 256) in
     let one : count - place ≡ suc (count - (place + 1)) = omega arith in
     ap (λ (xs : List InitByte). xs ++ more) ne ∙ (append_assoc all (init.Int (rest % 256) ∷ []) more ∙ (sym (ap (λ (n : ℕ). all ++ number_bytes n rest) one) ∙ before))
+
+pub filled : (before inner all : List InitByte) (start size : ℕ) → start ≡ length before → all ≡ before ++ inner → all ++ zeros (start + size - length all) ≡ before ++ padded size inner
+filled before inner all start size se ae = padded_behind before inner all (all ++ zeros (start + size - length all)) start size se ae refl
+
+-- one more element is made
+pub one_more_made : {A B : Type 0} (f : A → B) (xs : List A) (i : ℕ) (x : A) (all next whole : List B) (y : B) → i < length xs → x ≡ get_or xs i x → next ≡ all ++ y ∷ [] → y ≡ f x →
+    all ++ map f (drop i xs) ≡ whole → next ++ map f (drop (i + 1) xs) ≡ whole
+one_more_made {A} {B} f xs i x all next whole y lt is ne ye before =
+    let rest = map f (drop (i + 1) xs) in
+    ap (λ (l : List B). l ++ rest) ne
+    ∙ (append_assoc all (y ∷ []) rest ∙ (ap (λ (z : B). all ++ z ∷ rest) ye ∙ (ap (λ (l : List A). all ++ map f l) (sym (rest_less xs i x lt is)) ∙ before)))

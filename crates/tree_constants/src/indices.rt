@@ -21,8 +21,8 @@ fn level_told(told: Option<Refusal>, indices: &[ConstIndex]) -> Option<Refusal>
     ensures { result ≡ told_at BadInitialiser told (map (λ i. i.at) (filter (λ i. not (index_fits i)) indices.now)) }
 {
     let mut now = told;
-    for index in indices {
-        now = index_told(now, index);
+    for one in indices {
+        now = index_told(now, one);
     }
     now
 }

@@ -7,8 +7,8 @@ use Rattle.tree_constants.specs.Telling.{index_fits}
 use Rattle.tree_constants.proofs.OneByOne.{one_more, index_adds}
 use Rattle.tree_constants.proofs.indices.level_told.Goals as goal
 
-pub loop-index-preserved : goal.loop-index-preserved
-loop-index-preserved c =
-    let i = c.index-item.result in
-    one_more BadInitialiser (λ is. map (λ (j : ConstIndex). j.at) (filter (λ j. not (index_fits j)) is)) (λ i. unless_fits (index_fits i) i.at) index_adds c.args.indices.now c.loop-index.index-index i
-    c.loop-index-test.true c.index-item.is c.args.told c.loop-index.now c.index_told-now.result c.index_told-now.ensures c.loop-index.invariant
+pub loop-one-preserved : goal.loop-one-preserved
+loop-one-preserved c =
+    let i = c.one-item.result in
+    one_more BadInitialiser (λ is. map (λ (j : ConstIndex). j.at) (filter (λ j. not (index_fits j)) is)) (λ i. unless_fits (index_fits i) i.at) index_adds c.args.indices.now c.loop-one.one-index i
+    c.loop-one-test.true c.one-item.is c.args.told c.loop-one.now c.index_told-now.result c.index_told-now.ensures c.loop-one.invariant
