@@ -14,7 +14,7 @@ use Rattle.ir_programs.specs.Constants.{unless_fits, or_within}
 use Rattle.ir_programs.specs.Refusals.{merged, first, refused, earlier_of}
 use Rattle.ir_programs.specs.Texts.{places_where}
 use Rattle.ir_programs.proofs.Told.{merged_more}
-use Rattle.tree_constants.specs.Telling.{told_at, index_fits}
+use Rattle.tree_constants.specs.Telling.{told_at, index_fits, wide_among}
 use Rattle.tree_constants.specs.Values.{lent}
 
 pub nothing_more : (o : Option Refusal) → merged o None ≡ o
@@ -71,7 +71,7 @@ if_passes test n = go (test n)
 
 -- ---- indices
 
-pub index_adds : (i : ConstIndex) (is : List ConstIndex) → map (λ (j : ConstIndex). j.at) (filter (λ j. not (index_fits j)) (i ∷ is)) ≡ unless_fits (index_fits i) i.at ++ map (λ (j : ConstIndex). j.at) (filter (λ j. not (index_fits j)) is)
+pub index_adds : (i : ConstIndex) (is : List ConstIndex) → wide_among (i ∷ is) ≡ unless_fits (index_fits i) i.at ++ wide_among is
 index_adds i is = go (index_fits i)
   where
     go : (b : Bool) → map (λ (j : ConstIndex). j.at) (cond (not b) (i ∷ filter (λ j. not (index_fits j)) is) (filter (λ j. not (index_fits j)) is)) ≡ unless_fits b i.at ++ map (λ (j : ConstIndex). j.at) (filter (λ j. not (index_fits j)) is)
@@ -93,3 +93,9 @@ none_some r e = cc
 pub inner_told : (own bad : List ℕ) (r : Refusal) → Some r ≡ told_at BadInitialiser None bad → Some r ≡ told_at BadInitialiser None (or_within own bad)
 inner_told own [] r e = absurd (none_some r (sym e))
 inner_told own (b ∷ bs) r e = e
+
+pub index_told_on : (told next : Option Refusal) (i : ConstIndex) (fits : Bool) → fits ≡ index_fits i → next ≡ told_at BadInitialiser told (unless_fits fits i.at) → (rest : List ConstIndex) →
+    told_at BadInitialiser next (wide_among rest) ≡ told_at BadInitialiser told (wide_among (i ∷ rest))
+index_told_on told next i fits fe ne rest =
+    ap (λ (o : Option Refusal). told_at BadInitialiser o (wide_among rest)) (ne ∙ ap (λ (b : Bool). told_at BadInitialiser told (unless_fits b i.at)) fe)
+    ∙ (told_more BadInitialiser told (unless_fits (index_fits i) i.at) (wide_among rest) ∙ ap (told_at BadInitialiser told) (sym (index_adds i rest)))

@@ -86,7 +86,13 @@ fn step_offset(
             size_of(types, rooms, element.get()).wrapping_mul(index_bits(index))
         }
         IrType::Struct { fields, packed, .. } => {
-            place_of(types, rooms, fields.as_slice(), *packed, index.value.magnitude)
+            place_of(
+                types,
+                rooms,
+                fields.as_slice(),
+                *packed,
+                index.value.magnitude,
+            )
         }
         _ => 0,
     }

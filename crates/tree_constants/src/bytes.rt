@@ -216,16 +216,12 @@ fn push_value(
     ensures { IfOk result (λ u. bytes.new.items ≡ bytes.old.items ++ spec.value_bytes tree.now (head_in tree.now.types kind.now) form.now) }
 {
     match form {
-        ValueForm::Global(name) => {
-            push_pointer(bytes, global_number(tree, name.as_slice())?, 0)
-        }
+        ValueForm::Global(name) => { push_pointer(bytes, global_number(tree, name.as_slice())?, 0) }
         ValueForm::Gep(gep) => {
             let global = global_number(tree, gep.base.text.as_slice())?;
             push_pointer(bytes, global, gep_offset(tree.types.as_slice(), rooms, gep))
         }
-        ValueForm::Int(number) => {
-            push_typed(bytes, tree, kind, number)
-        }
+        ValueForm::Int(number) => { push_typed(bytes, tree, kind, number) }
         _ => Ok(()),
     }
 }
@@ -277,13 +273,45 @@ fn push_pointer(bytes: &mut Vec<InitByte>, global: u32, offset: u64) -> Result<(
     ensures { IfOk result (λ u. bytes.new.items ≡ bytes.old.items ++ spec.pointer_bytes global offset) }
 {
     bytes.extend_from_slice(&[
-        InitByte::PtrByte { global, offset, j: 0 },
-        InitByte::PtrByte { global, offset, j: 1 },
-        InitByte::PtrByte { global, offset, j: 2 },
-        InitByte::PtrByte { global, offset, j: 3 },
-        InitByte::PtrByte { global, offset, j: 4 },
-        InitByte::PtrByte { global, offset, j: 5 },
-        InitByte::PtrByte { global, offset, j: 6 },
-        InitByte::PtrByte { global, offset, j: 7 },
+        InitByte::PtrByte {
+            global,
+            offset,
+            j: 0,
+        },
+        InitByte::PtrByte {
+            global,
+            offset,
+            j: 1,
+        },
+        InitByte::PtrByte {
+            global,
+            offset,
+            j: 2,
+        },
+        InitByte::PtrByte {
+            global,
+            offset,
+            j: 3,
+        },
+        InitByte::PtrByte {
+            global,
+            offset,
+            j: 4,
+        },
+        InitByte::PtrByte {
+            global,
+            offset,
+            j: 5,
+        },
+        InitByte::PtrByte {
+            global,
+            offset,
+            j: 6,
+        },
+        InitByte::PtrByte {
+            global,
+            offset,
+            j: 7,
+        },
     ])
 }

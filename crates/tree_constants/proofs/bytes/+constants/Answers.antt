@@ -3,7 +3,7 @@ use Rattle.std.specs.Prelude.{IfOk}
 use Rattle.std.specs.List.{flat_map}
 use Rattle.flat_ir.specs.declared.program.InitByte.{InitByte}
 use Rattle.flat_ir.specs.declared.program.InitByte.TheVariants as init
-use Rattle.ir_tree.specs.declared.constants.Constant.{Constant}
+use Rattle.ir_tree.specs.declared.constants.Constant.{Constant, the_lemmas}
 use Rattle.ir_tree.specs.declared.module.TypeDefinition.{TypeDefinition}
 use Rattle.ir_programs.specs.Constants.{head_of}
 use Rattle.ir_programs.specs.Programs.{constant_bytes, padded, struct_bytes, value_bytes}
@@ -24,7 +24,7 @@ push_constant-push_value-requires-clause-form t c =
 
 pub push_constant-push_all-requires : goal.push_constant-push_all-requires
 push_constant-push_all-requires t c = (
-  search rules,
+  search (rules, the_lemmas),
   (
     c.requires.rooms,
     (
@@ -36,7 +36,7 @@ push_constant-push_all-requires t c = (
 
 pub push_constant-push_fields-requires : goal.push_constant-push_fields-requires
 push_constant-push_fields-requires t c = (
-  search rules,
+  search (rules, the_lemmas),
   (
     c.requires.rooms,
     (
