@@ -1,13 +1,12 @@
 -- Widths of heads.
-use Rattle.std.proofs.Common.{◌≡◌, ◌∙◌, ℕ, zero, suc, ◌≤◌, Bool, true, false, cond, List, [], ◌∷◌, Option, Some, None, length, refl, sym, ap, subst}
-use Rattle.std.specs.Prelude.{◌&&◌, nat_le}
-use Rattle.std.specs.List.{list_all}
+use Rattle.std.proofs.Common.{◌≡◌, ◌∙◌, ℕ, zero, suc, Bool, true, false, cond, List, [], ◌∷◌, Option, Some, None, length, refl, sym, subst}
+use Rattle.std.specs.Prelude.{nat_le}
 use Rattle.std.proofs.lemmas.Bool.{leb-true}
 use Rattle.std.proofs.lemmas.Option.{none-some, same_Some}
 use Rattle.bitnum.specs.Number.{IsWidth}
 use Rattle.ir_tree.specs.Layout.{kind_of}
 use Rattle.ir_tree.specs.Texts.{same}
-use Rattle.ir_tree.specs.declared.types.IrType.{IrType, fold-IrType, fold_out-IrType, map-IrType, out-IrType}
+use Rattle.ir_tree.specs.declared.types.IrType.{IrType, fold_out-IrType, map-IrType, out-IrType}
 use Rattle.ir_tree.specs.declared.types.IrType.TheOpen.{IrType-F}
 use Rattle.ir_tree.specs.declared.module.TypeDefinition.{TypeDefinition}
 use Rattle.ir_programs.specs.Constants.{behind_name, behind_level, head_within, head_of}

@@ -1,5 +1,5 @@
 -- Where constant pointers lead, modulo 2 ^ 64.
-use Rattle.std.proofs.Common.{◌≡◌, ◌∙◌, ◌+◌, ◌*◌, ◌%◌, ◌^◌, ◌<◌, ◌≤◌, ℕ, zero, suc, Bool, List, [], ◌∷◌, Option, Some, None, length, drop, get_or, map, min, refl, sym, ap, subst, arith}
+use Rattle.std.proofs.Common.{◌≡◌, ◌∙◌, ◌+◌, ◌*◌, ◌%◌, ◌<◌, ◌≤◌, ℕ, zero, suc, Bool, List, [], ◌∷◌, Option, Some, None, length, drop, get_or, map, min, refl, sym, ap, arith}
 use Rattle.std.proofs.Math.Nat.{add-mod, add-mod-mod, mod-add-mod}
 use Rattle.std.proofs.lemmas.List.{length-map}
 use Rattle.std.proofs.lemmas.Option.{none-some}
@@ -12,7 +12,7 @@ use Rattle.ir_tree.specs.declared.types.IrType.TheOpen.{IrType-F}
 use Rattle.ir_tree.specs.declared.constants.ConstIndex.{ConstIndex}
 use Rattle.ir_tree.specs.declared.constants.GepLevel.{GepLevel}
 use Rattle.ir_tree.specs.declared.module.TypeDefinition.{TypeDefinition}
-use Rattle.ir_programs.specs.Addresses.{index_bits, place_or_zero, field_offset, step_offset, steps_offset, source_offset, level_offset, levels_offset}
+use Rattle.ir_programs.specs.Addresses.{index_bits, place_or_zero, step_offset, steps_offset, source_offset, level_offset, levels_offset}
 use Rattle.ir_programs.specs.Constants.{head_of, step_into}
 use Rattle.ir_programs.specs.Types.{size_of}
 use Rattle.tree_constants.proofs.OneByOne.{rest_less}

@@ -1,14 +1,12 @@
 -- Steps of constant pointers into parts.
-use Rattle.std.proofs.Common.{◌≡◌, ◌∙◌, ◌++◌, ◌+◌, ◌<◌, ℕ, Bool, true, false, List, [], ◌∷◌, Option, Some, None, length, drop, get_or, refl, sym, ap}
-use Rattle.std.specs.List.{flat_map}
+use Rattle.std.proofs.Common.{◌≡◌, ◌∙◌, ◌++◌, ◌+◌, ◌<◌, ℕ, true, false, List, [], ◌∷◌, Option, Some, None, length, drop, get_or, sym, ap}
 use Rattle.std.specs.Option.{option_to_list, is_some}
 use Rattle.ir_tree.specs.declared.types.IrType.{IrType, out-IrType}
 use Rattle.ir_tree.specs.declared.types.IrType.TheOpen.{IrType-F}
 use Rattle.ir_tree.specs.declared.constants.ConstIndex.{ConstIndex}
-use Rattle.ir_tree.specs.declared.constants.GepLevel.{GepLevel}
 use Rattle.ir_tree.specs.declared.module.TypeDefinition.{TypeDefinition}
 use Rattle.ir_programs.specs.Causes.{is_empty}
-use Rattle.ir_programs.specs.Constants.{head_of, step_into, bad_steps, bad_after_first, bad_level_steps}
+use Rattle.ir_programs.specs.Constants.{head_of, step_into, bad_steps, bad_after_first}
 use Rattle.tree_constants.proofs.OneByOne.{rest_less}
 
 module _ (ts : List TypeDefinition) where

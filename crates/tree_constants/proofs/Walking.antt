@@ -1,11 +1,11 @@
 -- Values of functions, as they are collected.
-use Rattle.std.proofs.Common.{◌≡◌, ◌∙◌, ◌++◌, List, [], ◌∷◌, map, refl, sym, ap}
+use Rattle.std.proofs.Common.{◌≡◌, ◌∙◌, ◌++◌, List, [], ◌∷◌, refl, sym, ap}
 use Rattle.std.specs.List.{flat_map}
 use Rattle.std.proofs.lemmas.List.{map-append}
 use Rattle.ir_tree.specs.declared.constants.Value.{Value}
 use Rattle.ir_tree.specs.declared.instructions.Block.{Block}
 use Rattle.ir_programs.specs.Parts.{Written, phi_values, operation_values, terminator_values, block_values}
-use Rattle.tree_constants.specs.Values.{bare, values_of_phi, values_of_instruction, values_of_block}
+use Rattle.tree_constants.specs.Values.{bare, values_of_phi, values_of_block}
 
 bare_append : (xs ys : List Written) → bare (xs ++ ys) ≡ bare xs ++ bare ys
 bare_append xs ys = map-append (λ (w : Written). w.value) xs ys

@@ -1,4 +1,4 @@
-use Rattle.std.proofs.Common.{◌∙◌, Option, refl, ap}
+use Rattle.std.proofs.Common.{◌∙◌, refl, ap}
 use Rattle.std.specs.List.{flat_map}
 use Rattle.ir_tree.specs.declared.module.GlobalDefinition.{GlobalDefinition}
 use Rattle.ir_programs.specs.Constants.{bad_constants}

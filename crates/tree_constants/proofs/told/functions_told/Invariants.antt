@@ -1,8 +1,8 @@
-use Rattle.std.proofs.Common.{◌≡◌, drop, not}
-use Rattle.ir_programs.specs.Texts.{among, places_where}
+use Rattle.std.proofs.Common.{◌≡◌, drop}
+use Rattle.ir_programs.specs.Texts.{places_where}
 use Rattle.ir_programs.specs.Uses as uses
 use Rattle.ir_programs.specs.declared.refusals.Cause.TheVariants.{FunctionValue}
-use Rattle.tree_constants.specs.Telling.{told_at, is_known}
+use Rattle.tree_constants.specs.Telling.{told_at}
 use Rattle.tree_constants.specs.Values.{lent}
 use Rattle.tree_constants.proofs.told.functions_told.Given as goal
 

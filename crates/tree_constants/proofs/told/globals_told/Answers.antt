@@ -1,5 +1,4 @@
 use Rattle.std.specs.Prelude.{not}
-use Rattle.ir_programs.specs.Texts.{among}
 use Rattle.ir_programs.specs.Uses as uses
 use Rattle.ir_programs.specs.declared.refusals.Cause.TheVariants.{UnknownName}
 use Rattle.tree_constants.specs.Telling.{is_known}

@@ -1,5 +1,5 @@
 use Rattle.std.proofs.Common.{◌≡◌, drop, not}
-use Rattle.ir_programs.specs.Texts.{among, places_where}
+use Rattle.ir_programs.specs.Texts.{places_where}
 use Rattle.ir_programs.specs.Uses as uses
 use Rattle.ir_programs.specs.declared.refusals.Cause.TheVariants.{UnknownName}
 use Rattle.tree_constants.specs.Telling.{told_at, is_known}

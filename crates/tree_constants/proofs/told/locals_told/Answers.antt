@@ -2,7 +2,6 @@ use Rattle.std.specs.Prelude.{not}
 use Rattle.ir_programs.specs.Texts.{among}
 use Rattle.ir_programs.specs.Uses as uses
 use Rattle.ir_programs.specs.declared.refusals.Cause.TheVariants.{UnknownName}
-use Rattle.tree_constants.specs.Telling.{is_known}
 use Rattle.tree_constants.proofs.OneByOne.{use_more}
 use Rattle.tree_constants.proofs.told.locals_told.Goals as goal
 

@@ -2,7 +2,7 @@ use Rattle.std.proofs.Common.{◌≡◌, drop, not}
 use Rattle.ir_programs.specs.Texts.{among, places_where}
 use Rattle.ir_programs.specs.Uses as uses
 use Rattle.ir_programs.specs.declared.refusals.Cause.TheVariants.{UnknownName}
-use Rattle.tree_constants.specs.Telling.{told_at, is_known}
+use Rattle.tree_constants.specs.Telling.{told_at}
 use Rattle.tree_constants.specs.Values.{lent}
 use Rattle.tree_constants.proofs.told.locals_told.Given as goal
 

@@ -1,4 +1,4 @@
-use Rattle.std.proofs.Common.{◌≡◌, ◌∙◌, ap}
+use Rattle.std.proofs.Common.{◌∙◌, ap}
 use Rattle.std.proofs.lemmas.List.{map_push}
 use Rattle.tree_constants.specs.Values.{lent}
 use Rattle.tree_constants.proofs.values.push.Goals as goal

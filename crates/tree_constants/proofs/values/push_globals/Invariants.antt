@@ -1,7 +1,7 @@
-use Rattle.std.proofs.Common.{◌≡◌, ◌++◌, drop, map, not}
+use Rattle.std.proofs.Common.{◌≡◌, ◌++◌, drop}
 use Rattle.std.specs.List.{flat_map}
 use Rattle.ir_programs.specs.Parts as spec
-use Rattle.tree_constants.specs.Values.{lent, bare, values_of_phi, values_of_instruction, values_of_block}
+use Rattle.tree_constants.specs.Values.{lent}
 use Rattle.tree_constants.proofs.values.push_globals.Given as goal
 
 abbrev pub invariant-loop-global : goal.invariant-loop-global

@@ -1,7 +1,7 @@
-use Rattle.std.proofs.Common.{◌≡◌, ◌++◌, drop, map, not}
+use Rattle.std.proofs.Common.{◌≡◌, ◌++◌, drop, map}
 use Rattle.ir_programs.specs.Parts as spec
 use Rattle.flat_ir.specs.declared.nodes.RegType.TheVariants.{Int}
-use Rattle.tree_constants.specs.Values.{lent, bare, values_of_phi, values_of_instruction, values_of_block}
+use Rattle.tree_constants.specs.Values.{lent, bare}
 use Rattle.tree_constants.proofs.values.push_indices.Given as goal
 
 abbrev pub invariant-loop-index : goal.invariant-loop-index

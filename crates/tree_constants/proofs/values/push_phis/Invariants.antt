@@ -1,6 +1,6 @@
-use Rattle.std.proofs.Common.{◌≡◌, ◌++◌, drop, map, not}
+use Rattle.std.proofs.Common.{◌≡◌, ◌++◌, drop}
 use Rattle.std.specs.List.{flat_map}
-use Rattle.tree_constants.specs.Values.{lent, bare, values_of_phi, values_of_instruction, values_of_block}
+use Rattle.tree_constants.specs.Values.{lent, values_of_phi}
 use Rattle.tree_constants.proofs.values.push_phis.Given as goal
 
 abbrev pub invariant-loop-phi : goal.invariant-loop-phi

@@ -1,6 +1,6 @@
-use Rattle.std.proofs.Common.{◌≡◌, ◌++◌, drop, map, not}
+use Rattle.std.proofs.Common.{◌≡◌, ◌++◌, drop, map}
 use Rattle.ir_programs.specs.Parts as spec
-use Rattle.tree_constants.specs.Values.{lent, bare, values_of_phi, values_of_instruction, values_of_block}
+use Rattle.tree_constants.specs.Values.{lent, bare}
 use Rattle.tree_constants.proofs.values.push_typed.Given as goal
 
 abbrev pub invariant-loop-one : goal.invariant-loop-one
