@@ -1,7 +1,7 @@
 -- What is told of one cause's places, one behind the other.
-use Rattle.std.specs.Prelude.{ℕ, Bool, ◌||◌, List, Option}
+use Rattle.std.specs.Prelude.{ℕ, Bool, not, ◌||◌, List, map, Option}
+use Rattle.std.specs.List.{filter}
 use Rattle.ir_tree.specs.declared.constants.ConstIndex.{ConstIndex}
-use Rattle.ir_tree.specs.declared.constants.GepLevel.{GepLevel}
 use Rattle.ir_tree.specs.declared.module.IrTree.{IrTree}
 use Rattle.ir_programs.specs.declared.refusals.Cause.{Cause}
 use Rattle.ir_programs.specs.declared.refusals.Refusal.{Refusal}
@@ -20,3 +20,7 @@ is_known t name = is_global t name || is_function t name
 -- an index has as many bits as are written
 abbrev pub index_fits : ConstIndex → Bool
 index_fits i = fits_width i.width i.value
+
+-- the places of the indices that have more bits
+abbrev pub wide_among : List ConstIndex → List ℕ
+wide_among is = map (λ i. i.at) (filter (λ i. not (index_fits i)) is)

@@ -11,7 +11,7 @@ use ir_tree::constants::{ConstGep, ConstIndex, GepLevel};
 use ir_tree::layouts::Room;
 use ir_tree::module::TypeDefinition;
 use ir_tree::types::IrType;
-use tree_types::{field_offset, head_of, size_of, step_into};
+use tree_types::{end_of_fields, field_offset, head_of, size_of, step_into};
 
 /// Where a constant pointer leads: how many bytes behind its global, modulo 2 to 64.
 pub fn gep_offset(types: &[TypeDefinition], rooms: &[Option<Room>], gep: &ConstGep) -> u64
@@ -33,12 +33,12 @@ fn level_offset(types: &[TypeDefinition], rooms: &[Option<Room>], level: &GepLev
     requires readable { IsTrue (is_readable_level level.now) }
     ensures { result ≡ spec.level_offset types.now level.now % 2 ^ 64 }
 {
-    match level.indices.as_slice() {
-        [] => 0,
-        [first, rest @ ..] => {
+    match level.indices.as_slice().split_first() {
+        Some((first, rest)) => {
             let whole = size_of(types, rooms, &level.source).wrapping_mul(index_bits(first));
             whole.wrapping_add(steps_offset(types, rooms, &level.source, rest))
         }
+        None => 0,
     }
 }
 
@@ -86,7 +86,13 @@ fn step_offset(
             size_of(types, rooms, element.get()).wrapping_mul(index_bits(index))
         }
         IrType::Struct { fields, packed, .. } => {
-            place_of(types, rooms, fields.as_slice(), *packed, index.value.magnitude)
+            place_of(
+                types,
+                rooms,
+                fields.as_slice(),
+                *packed,
+                index.value.magnitude,
+            )
         }
         _ => 0,
     }
@@ -120,5 +126,8 @@ fn fields_end(
     requires { AreRooms types.now rooms.now }
     ensures { (k : ℕ) → length fields.now ≤ k → result ≡ spec.field_offset types.now fields.now packed k }
 {
-    0
+    match end_of_fields(types, rooms, fields, packed) {
+        Some(end) => end.size,
+        None => 0,
+    }
 }

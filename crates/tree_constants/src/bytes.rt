@@ -1,9 +1,12 @@
 //! The bytes that globals begin with.
-ghost use Rattle.std.specs.Prelude.{◌≡◌, ◌≤◌, ◌++◌, ◌+◌, ◌-◌, ◌/◌, ◌∷◌, [], ℕ, length, map, replicate, take, IfOk, IsTrue};
+ghost use Rattle.std.specs.Prelude.{◌≡◌, ◌++◌, ◌+◌, ◌-◌, [], ℕ, List, length, map, replicate, IfOk, IsTrue, if◌then◌else◌};
 ghost use Rattle.std.specs.List.{flat_map, list_all};
 ghost use Rattle.flat_ir.specs.declared.program.InitByte.TheVariants as init;
 ghost use Rattle.ir_tree.specs.declared.types.IrType.{out-IrType};
 ghost use Rattle.ir_tree.specs.declared.constants.ValueForm.TheVariants.{Int};
+ghost use Rattle.flat_ir.specs.declared.program.InitByte.{InitByte};
+ghost use Rattle.ir_tree.specs.declared.module.IrTree.{IrTree};
+ghost use Rattle.ir_programs.specs.Addresses.{field_offset};
 ghost use Rattle.ir_programs.specs.Constants.{head_of as head_in};
 ghost use Rattle.ir_programs.specs.Programs as spec;
 ghost use Rattle.ir_programs.specs.Readable as readable;
@@ -17,7 +20,7 @@ use crate::places::global_number;
 use flat_ir::{GlobalVar, InitByte};
 use ir_tree::constants::{Constant, Integer, ValueForm};
 use ir_tree::layouts::Room;
-use ir_tree::module::{GlobalDefinition, IrTree};
+use ir_tree::module::{GlobalDefinition, IrTree, TypeDefinition};
 use ir_tree::types::IrType;
 use plain_list::Sequence;
 use std::alloc::{AllocError, Global};
@@ -63,6 +66,7 @@ fn global_var(
 
 /// The bytes of a constant.
 #[cycle(constants)]
+#[tactic(auto, using(crate::proofs::Levels::readable_elements, crate::proofs::Levels::readable_fields))]
 fn push_constant(
     bytes: &mut Vec<InitByte>,
     tree: &IrTree,
@@ -74,17 +78,19 @@ fn push_constant(
     requires readable { IsTrue (readable.is_readable_constant constant.now) }
     ensures { IfOk result (λ u. bytes.new.items ≡ bytes.old.items ++ spec.constant_bytes tree.now constant.now) }
 {
+    let types = tree.types.as_slice();
     let start = bytes.len();
     match constant {
         Constant::Value { kind, value } => {
             push_value(bytes, tree, rooms, kind, &value.form)?;
-            pad(bytes, start, size_of(tree.types.as_slice(), rooms, kind))
+            pad(bytes, start, size_of(types, rooms, kind))
         }
         Constant::Bytes { bytes: text, .. } => push_text(bytes, text.as_slice()),
         Constant::Array { elements, .. } => push_all(bytes, tree, rooms, elements.as_slice()),
         Constant::Struct { kind, fields, .. } => {
-            push_struct(bytes, tree, rooms, kind, fields.as_slice())?;
-            pad(bytes, start, size_of(tree.types.as_slice(), rooms, kind))
+            let shape = shape_of(types, kind);
+            push_fields(bytes, tree, rooms, &shape, fields.as_slice())?;
+            pad(bytes, start, size_of(types, rooms, kind))
         }
     }
 }
@@ -108,49 +114,66 @@ fn push_all(
     Ok(())
 }
 
-/// The bytes of a struct's fields, each at its place.
-#[cycle(constants)]
-fn push_struct(
-    bytes: &mut Vec<InitByte>,
-    tree: &IrTree,
-    rooms: &[Option<Room>],
-    kind: &IrType,
-    constants: &[Constant],
-) -> Result<(), AllocError>
-    requires rooms { AreRooms tree.now.types rooms.now }
-    requires types { IsTrue (have_widths tree.now.types) }
-    requires readable { IsTrue (list_all readable.is_readable_constant constants.now) }
-    ensures { IfOk result (λ u. bytes.new.items ≡ bytes.old.items ++ spec.struct_bytes tree.now (head_in tree.now.types kind.now) (map (spec.constant_bytes tree.now) constants.now)) }
+/// A struct's fields, or that a type is none.
+#[derive(Clone, Copy)]
+struct Shape<'a> {
+    is_struct: bool,
+    fields: &'a [IrType],
+    packed: bool,
+}
+
+/// The shape of a type.
+fn shape_of<'a>(types: &'a [TypeDefinition], kind: &'a IrType) -> Shape<'a>
+    ensures { (t : IrTree) (cs : List (List InitByte)) → spec.struct_bytes t (head_in types.now kind.now) cs ≡ (if result.is_struct then spec.fields_from t result.fields.now result.packed 0 [] cs else []) }
 {
-    match head_of(tree.types.as_slice(), kind) {
-        IrType::Struct { fields, packed, .. } => {
-            push_fields(bytes, tree, rooms, fields.as_slice(), *packed, constants)
-        }
-        _ => Ok(()),
+    match head_of(types, kind) {
+        IrType::Struct { fields, packed, .. } => Shape {
+            is_struct: true,
+            fields: fields.as_slice(),
+            packed: *packed,
+        },
+        _ => Shape {
+            is_struct: false,
+            fields: &[],
+            packed: false,
+        },
     }
 }
 
+/// The bytes of a struct's fields, each at its place.
 #[cycle(constants)]
+#[tactic(auto, using(crate::proofs::Levels::passes_in))]
 fn push_fields(
     bytes: &mut Vec<InitByte>,
     tree: &IrTree,
     rooms: &[Option<Room>],
-    fields: &[IrType],
-    packed: bool,
+    shape: &Shape,
     constants: &[Constant],
 ) -> Result<(), AllocError>
     requires rooms { AreRooms tree.now.types rooms.now }
     requires types { IsTrue (have_widths tree.now.types) }
     requires readable { IsTrue (list_all readable.is_readable_constant constants.now) }
-    ensures { IfOk result (λ u. bytes.new.items ≡ bytes.old.items ++ spec.fields_from tree.now fields.now packed 0 [] (map (spec.constant_bytes tree.now) constants.now)) }
+    ensures { IfOk result (λ u. bytes.new.items ≡ bytes.old.items ++ (if shape.now.is_struct then spec.fields_from tree.now shape.now.fields.now shape.now.packed 0 [] (map (spec.constant_bytes tree.now) constants.now) else [])) }
 {
+    if !shape.is_struct {
+        return Ok(());
+    }
     let start = bytes.len();
     for place in 0..constants.len() {
-        let offset = place_of(tree.types.as_slice(), rooms, fields, packed, place as u64);
+        let offset = place_in(tree, rooms, shape, place);
         pad(bytes, start, offset)?;
         push_constant(bytes, tree, rooms, &constants[place])?;
     }
     Ok(())
+}
+
+/// Where a field of the shape stands.
+fn place_in(tree: &IrTree, rooms: &[Option<Room>], shape: &Shape, place: usize) -> u64
+    requires { AreRooms tree.now.types rooms.now }
+    ensures { result ≡ field_offset tree.now.types shape.now.fields.now shape.now.packed place }
+{
+    let types = tree.types.as_slice();
+    place_of(types, rooms, shape.fields, shape.packed, place as u64)
 }
 
 /// Zeros, up to so many bytes behind a start.
@@ -193,18 +216,30 @@ fn push_value(
     ensures { IfOk result (λ u. bytes.new.items ≡ bytes.old.items ++ spec.value_bytes tree.now (head_in tree.now.types kind.now) form.now) }
 {
     match form {
-        ValueForm::Global(name) => {
-            push_pointer(bytes, global_number(tree, name.as_slice())?, 0)
-        }
+        ValueForm::Global(name) => { push_pointer(bytes, global_number(tree, name.as_slice())?, 0) }
         ValueForm::Gep(gep) => {
             let global = global_number(tree, gep.base.text.as_slice())?;
             push_pointer(bytes, global, gep_offset(tree.types.as_slice(), rooms, gep))
         }
-        ValueForm::Int(number) => {
-            push_integer(bytes, head_of(tree.types.as_slice(), kind), number)
-        }
+        ValueForm::Int(number) => { push_typed(bytes, tree, kind, number) }
         _ => Ok(()),
     }
+}
+
+/// The bytes of an integer of a type.
+fn push_typed(
+    bytes: &mut Vec<InitByte>,
+    tree: &IrTree,
+    kind: &IrType,
+    number: &Integer,
+) -> Result<(), AllocError>
+    requires types { IsTrue (have_widths tree.now.types) }
+    requires kind { IsTrue (readable.has_widths kind.now) }
+    ensures { IfOk result (λ u. bytes.new.items ≡ bytes.old.items ++ spec.integer_bytes (head_in tree.now.types kind.now) (Int number.now)) }
+{
+    let types = tree.types.as_slice();
+    let head = head_of(types, kind);
+    push_integer(bytes, head, number)
 }
 
 fn push_integer(
@@ -226,7 +261,7 @@ fn push_number(bytes: &mut Vec<InitByte>, count: u8, bits: u64) -> Result<(), Al
     ensures { IfOk result (λ u. bytes.new.items ≡ bytes.old.items ++ spec.number_bytes count bits) }
 {
     let mut rest = bits;
-    for _ in 0..count {
+    'bytes: for place in 0..count {
         bytes.push(InitByte::Int((rest % 256) as u8))?;
         rest /= 256;
     }
@@ -238,13 +273,45 @@ fn push_pointer(bytes: &mut Vec<InitByte>, global: u32, offset: u64) -> Result<(
     ensures { IfOk result (λ u. bytes.new.items ≡ bytes.old.items ++ spec.pointer_bytes global offset) }
 {
     bytes.extend_from_slice(&[
-        InitByte::PtrByte { global, offset, j: 0 },
-        InitByte::PtrByte { global, offset, j: 1 },
-        InitByte::PtrByte { global, offset, j: 2 },
-        InitByte::PtrByte { global, offset, j: 3 },
-        InitByte::PtrByte { global, offset, j: 4 },
-        InitByte::PtrByte { global, offset, j: 5 },
-        InitByte::PtrByte { global, offset, j: 6 },
-        InitByte::PtrByte { global, offset, j: 7 },
+        InitByte::PtrByte {
+            global,
+            offset,
+            j: 0,
+        },
+        InitByte::PtrByte {
+            global,
+            offset,
+            j: 1,
+        },
+        InitByte::PtrByte {
+            global,
+            offset,
+            j: 2,
+        },
+        InitByte::PtrByte {
+            global,
+            offset,
+            j: 3,
+        },
+        InitByte::PtrByte {
+            global,
+            offset,
+            j: 4,
+        },
+        InitByte::PtrByte {
+            global,
+            offset,
+            j: 5,
+        },
+        InitByte::PtrByte {
+            global,
+            offset,
+            j: 6,
+        },
+        InitByte::PtrByte {
+            global,
+            offset,
+            j: 7,
+        },
     ])
 }

@@ -52,11 +52,7 @@ fn bad_of(types: &[TypeDefinition], constant: &Constant) -> Option<Refusal>
             let fits = is_string_of(types, head_of(types, kind), bytes.as_slice());
             noted_unless(None, fits, Cause::BadInitialiser, *at)
         }
-        Constant::Array {
-            kind,
-            at,
-            elements,
-        } => {
+        Constant::Array { kind, at, elements } => {
             let within = bad_among(types, elements.as_slice());
             let fits = is_array_of(types, head_of(types, kind), elements.as_slice());
             or_within(within, fits, *at)

@@ -26,9 +26,9 @@ pub fn gep_steps_fit(types: &[TypeDefinition], gep: &ConstGep) -> bool
 pub fn bad_step(types: &[TypeDefinition], source: &IrType, indices: &[ConstIndex]) -> Option<u32>
     ensures { option_to_list result ≡ spec.bad_after_first types.now source.now indices.now }
 {
-    match indices {
-        [] => None,
-        [_, rest @ ..] => step_within(types, source, rest),
+    match indices.split_first() {
+        Some((_, rest)) => step_within(types, source, rest),
+        None => None,
     }
 }
 

@@ -7,12 +7,7 @@ ghost use Rattle.tree_constants.specs.Telling.{told_at};
 use ir_programs::{Cause, Refusal, earlier, noted};
 
 /// What is told once a cause is found at a place, unless it is all right there.
-pub fn noted_unless(
-    told: Option<Refusal>,
-    fits: bool,
-    cause: Cause,
-    at: u32,
-) -> Option<Refusal>
+pub fn noted_unless(told: Option<Refusal>, fits: bool, cause: Cause, at: u32) -> Option<Refusal>
     ensures { result ≡ told_at cause told (unless_fits fits at) }
 {
     if fits { told } else { noted(told, cause, at) }

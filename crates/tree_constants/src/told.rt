@@ -32,9 +32,15 @@ pub fn values_told(
     ensures { IfOk result (λ now. now ≡ merged (merged (merged told (first (refused UnknownName (causes.unknown_globals tree.now)))) (first (refused FunctionValue (causes.function_values_of tree.now)))) (first (refused BadInitialiser (flat_map wide_value_indices (module_values tree.now))))) }
 {
     let values = values_of_tree(alloc, tree)?;
-    let told = globals_told(told, tree, values.as_slice());
-    let told = functions_told(told, tree, values.as_slice());
-    Ok(widths_told(told, values.as_slice()))
+    Ok(uses_told(told, tree, values.as_slice()))
+}
+
+fn uses_told(told: Option<Refusal>, tree: &IrTree, values: &[&Value]) -> Option<Refusal>
+    ensures { result ≡ told_at BadInitialiser (told_at FunctionValue (told_at UnknownName told (places_where (λ n. not (is_known_in tree.now n.text)) (uses.global_uses (lent values.now)))) (places_where (λ n. uses.is_function tree.now n.text) (uses.global_uses (lent values.now)))) (flat_map wide_value_indices (lent values.now)) }
+{
+    let known = globals_told(told, tree, values);
+    let named = functions_told(known, tree, values);
+    widths_told(named, values)
 }
 
 /// What is told once the values of a function are looked at: a register that one names is to be the function's.

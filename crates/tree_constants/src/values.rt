@@ -64,11 +64,7 @@ fn push_operation<'a>(
     }
 }
 
-fn push_two<'a>(
-    values: &mut Vec<&'a Value>,
-    a: &'a Value,
-    b: &'a Value,
-) -> Result<(), AllocError>
+fn push_two<'a>(values: &mut Vec<&'a Value>, a: &'a Value, b: &'a Value) -> Result<(), AllocError>
     ensures { IfOk result (λ u. lent values.new.items ≡ lent values.old.items ++ a.now ∷ b.now ∷ []) }
 {
     push(values, a)?;
@@ -161,10 +157,7 @@ fn push_functions<'a>(
 }
 
 #[cycle(constants)]
-fn push_constant<'a>(
-    values: &mut Vec<&'a Value>,
-    constant: &'a Constant,
-) -> Result<(), AllocError>
+fn push_constant<'a>(values: &mut Vec<&'a Value>, constant: &'a Constant) -> Result<(), AllocError>
     ensures { IfOk result (λ u. lent values.new.items ≡ lent values.old.items ++ spec.constant_values constant.now) }
 {
     match constant {
@@ -213,10 +206,7 @@ pub fn values_of_function<'a>(
 }
 
 /// The values of a tree: those of its globals' constants, and then those of its functions.
-pub fn values_of_tree<'a>(
-    alloc: Global,
-    tree: &'a IrTree,
-) -> Result<Vec<&'a Value>, AllocError>
+pub fn values_of_tree<'a>(alloc: Global, tree: &'a IrTree) -> Result<Vec<&'a Value>, AllocError>
     ensures { IfOk result (λ values. lent values.items ≡ spec.module_values tree.now) }
 {
     let mut values = Vec::new(alloc);

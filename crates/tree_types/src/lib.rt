@@ -11,5 +11,5 @@ mod told;
 
 pub use alike::is_one_type;
 pub use names::{head_of, kind_of, step_into};
-pub use rooms::{field_offset, rooms_of, size_of};
+pub use rooms::{end_of_fields, field_offset, rooms_of, size_of};
 pub use told::types_told;

@@ -139,7 +139,7 @@ fn room_of_struct(
 
 /// Where these fields of a struct end, and the greatest of their alignments.
 #[cycle(rooms)]
-fn end_of_fields(
+pub fn end_of_fields(
     types: &[TypeDefinition],
     rooms: &[Option<Room>],
     fields: &[IrType],
