@@ -1,6 +1,7 @@
 -- Words for small trees, and what their types are.
 use Rattle.std.proofs.Common.{◌≡◌, ◌∙◌, ℕ, false, List, [], Option, Some, None, sym, ap}
-use Rattle.ir_tree.specs.Layout.{level, name_within}
+use Rattle.std.specs.Prelude.{min}
+use Rattle.ir_tree.specs.Layout.{level, name_within, most}
 use Rattle.ir_tree.specs.declared.types.Name.{Name}
 use Rattle.ir_tree.specs.declared.types.IrType.{IrType, out-IrType, fold-IrType, fold-roll-IrType, out-roll-IrType}
 use Rattle.ir_tree.specs.declared.types.IrType.TheOpen.{IrType-F}
@@ -31,7 +32,7 @@ fold_int : {A : Type 0} (f : IrType-F A → A) (n : ℕ) → fold-IrType A f (ty
 fold_int {A} f n = ap (fold-IrType A f) (sym (rolls-Int n)) ∙ fold-roll-IrType A f (IrType-F.Int n)
 
 pub size_of_byte : size_of [] (types.Int 8) ≡ 1
-size_of_byte = ap size_or_zero (fold_int (level (name_within 0 [])) 8)
+size_of_byte = ap (λ e. min most (size_or_zero e)) (fold_int (level (name_within 0 [])) 8)
 
 -- ---- parts of trees; a name's place is 0 where nothing is refused
 
