@@ -1,5 +1,1 @@
-pub mod Names
-pub mod Nodes
-pub mod Programs
-pub mod Pushes
-pub mod Small
+pub mod Resolving

@@ -1,9 +1,8 @@
-//! The program of a module's tree.
+//! The program of a module's tree, or the first refusal.
 #![tactic(auto)]
 
-mod names;
-mod nodes;
-mod programs;
+mod answering;
+mod error;
 
-pub use names::{Local, Named};
-pub use programs::resolve;
+pub use answering::resolve;
+pub use error::ResolveError;

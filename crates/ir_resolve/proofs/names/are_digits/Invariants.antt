@@ -1,6 +1,0 @@
-use Rattle.std.proofs.Common.{◌≡◌, drop}
-use Rattle.ir_grammar.specs.Tokens.{are_digits as digits_in}
-use Rattle.ir_resolve.proofs.names.are_digits.Given as goal
-
-abbrev pub invariant-bytes : goal.invariant-bytes
-invariant-bytes l = digits_in l.text ≡ digits_in (drop l.byte-index l.text)
