@@ -1,0 +1,6 @@
+//! Names of a program as they stand in a line of text.
+#![tactic(auto)]
+
+mod texts;
+
+pub use texts::{put_function, put_name, put_register};
