@@ -1,3 +1,4 @@
-pub mod OfBytes
+pub mod OneText
+pub mod Stopping
 pub mod Answering
 pub mod Shown

@@ -1,34 +1,22 @@
 -- The text of a program.
-use Rattle.std.specs.Prelude.{◌≡◌, ℕ, Bool, true, false, List, Option, Some, None, All}
+use Rattle.std.specs.Prelude.{◌≡◌, ℕ, List}
 use Rattle.flat_ir.specs.declared.program.ProgramData.{ProgramData}
-use Rattle.flow.specs.Flow.{AreDefined}
+use Rattle.checks.specs.Errors.{IsChecked}
 use Rattle.ir_tree.specs.declared.module.IrTree.{IrTree}
 use Rattle.ir_reader.specs.Reading.{IsReadAs}
-use Rattle.ir_resolve.specs.Programs.{resolved}
+use Rattle.ir_programs.specs.Answers.{Resolved, answer}
 
--- on every path through each function each register is set before it is read
-abbrev pub IsDefined : ProgramData → Type 0
-IsDefined p = All AreDefined p.funcs
-
--- The bytes are the text of the program: they part into tokens, which the grammar derives from a tree; its names, numbers and types
--- resolve to the program; and each register is set before it is read.
-pub record Reads (bytes : List ℕ) (p : ProgramData) : Type 0 where
-  pub tree : IrTree
+-- The bytes are the text of the program, and this is their tree: they part into tokens, which the grammar derives from it; no condition on
+-- its names, numbers and types fails, so that it resolves to the program; and none fails at any node of the program.
+pub record IsTextOf (bytes : List ℕ) (tree : IrTree) (p : ProgramData) : Type 0 where
   pub read : IsReadAs bytes tree
-  pub resolves : resolved tree ≡ Some p
-  pub defined : IsDefined p
+  pub resolves : answer tree ≡ Resolved p
+  pub checked : IsChecked p.funcs
 
--- the tree of the bytes, or that they have none
-abbrev pub IsTreeOf : List ℕ → Option IrTree → Type 0
-IsTreeOf bytes (Some tree) = IsReadAs bytes tree × ((other : IrTree) → IsReadAs bytes other → tree ≡ other)
-IsTreeOf bytes None = (tree : IrTree) → IsReadAs bytes tree → ⊥
+-- the bytes are the text of the program
+abbrev pub Reads : List ℕ → ProgramData → Type 0
+Reads bytes p = (tree : IrTree) × IsTextOf bytes tree p
 
--- the program of the bytes, or that they have none
-abbrev pub IsProgramOf : List ℕ → Option ProgramData → Type 0
-IsProgramOf bytes (Some p) = Reads bytes p
-IsProgramOf bytes None = (p : ProgramData) → Reads bytes p → ⊥
-
--- a test tells whether something holds
-abbrev pub Tells : Bool → Type 0 → Type 0
-Tells true P = P
-Tells false P = P → ⊥
+-- a text is that of one program at most
+abbrev pub HasOneProgram : Type 0
+HasOneProgram = (bytes : List ℕ) (p q : ProgramData) → Reads bytes p → Reads bytes q → p ≡ q

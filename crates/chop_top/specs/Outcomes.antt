@@ -1,22 +1,27 @@
 -- What each status of the top call says.
-use Rattle.std.specs.Prelude.{◌≡◌, ◌⊎◌, ℕ, ◌<◌, ◌≤◌, List, [], ◌∷◌, ◌++◌, length, codes, Some, None, IfSome, string_bytes, String, Result, Ok, Err, Vec}
+use Rattle.std.specs.Prelude.{◌≡◌, ◌⊎◌, ℕ, ◌<◌, ◌≤◌, true, List, length, codes, Some, None, IfSome, string_bytes, String, Result, Ok, Err, Vec}
 use Rattle.std.specs.declared.alloc.Global.{Global}
 use Rattle.std.specs.declared.alloc.AllocError.{AllocError}
 use Rattle.flat_ir.specs.declared.program.ProgramData.{ProgramData}
 use Rattle.chop_outside.specs.Reading.{FilesState, ReadWhole, contents_of}
 use Rattle.chop_outside.specs.Writing.{SinkState, Appends, WrotePrefix}
 use Rattle.chop_words.specs.declared.options.Options.{Options}
-use Rattle.chop_words.specs.Words.{Explored, wanted, usage_line}
+use Rattle.chop_words.specs.Words.{Wanted, Explored, Printed, file_of, wanted, usage_line}
 use Rattle.explorer.specs.declared.states.Limits.{Limits}
 use Rattle.explorer.specs.States.{Found}
 use Rattle.explorer.specs.Views.{setting_of, AreLeaves}
+use Rattle.explorer.specs.Built.{is_built}
 use Rattle.explorer.specs.Leaves.{AreRight}
+use Rattle.ir_tree.specs.declared.module.IrTree.{IrTree}
+use Rattle.ir_tree.specs.Printing.{printed}
+use Rattle.refusal_lines.specs.Refusals.{refused}
 use Rattle.report.specs.Report.{text}
 use Rattle.chop_top.specs.declared.top.Status.{Status}
 use Rattle.chop_top.specs.declared.top.Status.TheVariants.{Done, Usage, Refused, Memory, ReadFault, WriteFault}
 use Rattle.chop_top.specs.declared.top.Answer.{Answer}
 use Rattle.chop_top.specs.declared.top.Answer.TheVariants as answer
-use Rattle.chop_top.specs.Accepted.{Reads}
+use Rattle.chop_top.specs.Accepted.{IsTextOf, Reads}
+use Rattle.chop_top.specs.Refusals.{IsRefusalOf, IsBuiltFor}
 
 -- the most bytes that are read
 abbrev pub limit : ℕ
@@ -32,28 +37,37 @@ pub record Reading : Type 0 where
   pub before : FilesState
   pub after : FilesState
 
--- A text is the report of the exploration of the program that the bytes are the text of. The leaves split the inputs, each is right
--- of the runs of the whole program on the inputs that it stands for, and an input that is kept is the least of these.
+-- A text is the report of the exploration of the program that the bytes are the text of, each node of which is explored. The leaves split
+-- the inputs, each is right of the runs of the whole program on the inputs that it stands for, and an input that is kept is the least of
+-- these.
 pub record IsReportOf (options : Options) (bytes written : List ℕ) : Type 0 where
   pub program : ProgramData
   pub reads : Reads bytes program
+  pub built : is_built program ≡ true
   pub leaves : List Found
   pub explores : AreLeaves program (limits_of options) leaves
   pub right : AreRight (setting_of program (limits_of options)) leaves
   pub report : written ≡ text program options leaves
 
--- the bytes are no text of a program that is built by now
-pub record IsRefusalOf (bytes written : List ℕ) : Type 0 where
-  pub none : (program : ProgramData) → Reads bytes program → ⊥
-  pub line : written ≡ codes "refused NotBuilt" ++ 10 ∷ []
+-- a text is that of the tree of bytes that are accepted, printed anew
+pub record IsPrintOf (bytes written : List ℕ) : Type 0 where
+  pub tree : IrTree
+  pub program : ProgramData
+  pub accepted : IsTextOf bytes tree program
+  pub print : written ≡ printed tree
+
+-- what is wanted of the bytes is done
+abbrev pub IsDoneOf : Wanted → List ℕ → List ℕ → Type 0
+IsDoneOf (Explored options file) bytes written = IsReportOf options bytes written
+IsDoneOf (Printed file) bytes written = IsPrintOf bytes written
 
 -- the file that the words name was read to its end, and what is said of its bytes holds
-pub record OfFile (P : Options → List ℕ → Type 0) (r : Reading) : Type 0 where
-  pub asked : Explored
+pub record OfFile (P : Wanted → List ℕ → Type 0) (r : Reading) : Type 0 where
+  pub asked : Wanted
   pub named : wanted r.words ≡ Some asked
   pub bytes : List ℕ
-  pub read : ReadWhole asked.file bytes limit r.before r.after
-  pub holds : P asked.options bytes
+  pub read : ReadWhole (file_of asked) bytes limit r.before r.after
+  pub holds : P asked bytes
 
 -- the words aren't in the table, and no file was asked for
 pub record IsUsage (r : Reading) (written : List ℕ) : Type 0 where
@@ -63,24 +77,24 @@ pub record IsUsage (r : Reading) (written : List ℕ) : Type 0 where
 
 -- more bytes were read than the limit, and where the file is told it has more
 pub record IsTooLarge (r : Reading) (written : List ℕ) : Type 0 where
-  pub asked : Explored
+  pub asked : Wanted
   pub named : wanted r.words ≡ Some asked
   pub more : limit < r.after.count
-  pub told : IfSome (contents_of r.before.named asked.file) (λ contents. limit < length contents)
-  pub line : written ≡ codes "refused TooLarge" ++ 10 ∷ []
+  pub told : IfSome (contents_of r.before.named (file_of asked)) (λ contents. limit < length contents)
+  pub line : written ≡ refused (codes "TooLarge")
 
 -- a call on the files failed, which was asked for the file that the words name
 pub record IsReadFault (r : Reading) : Type 0 where
-  pub asked : Explored
+  pub asked : Wanted
   pub named : wanted r.words ≡ Some asked
-  pub opened : r.after.asked ≡ Some asked.file
+  pub opened : r.after.asked ≡ Some (file_of asked)
   pub fault : r.before.faults < r.after.faults
 
 -- what may be written under a status, all of it
 abbrev pub Text : Status → Reading → List ℕ → Type 0
-Text Done r written = OfFile (λ options bytes. IsReportOf options bytes written) r
+Text Done r written = OfFile (λ asked bytes. IsDoneOf asked bytes written) r
 Text Usage r written = IsUsage r written
-Text Refused r written = IsTooLarge r written ⊎ OfFile (λ options bytes. IsRefusalOf bytes written) r
+Text Refused r written = IsTooLarge r written ⊎ OfFile (λ asked bytes. IsRefusalOf asked bytes written) r
 Text Memory r written = ⊥
 Text ReadFault r written = ⊥
 Text WriteFault r written = ⊥
@@ -92,11 +106,11 @@ Answered answer.ReadFault r = IsReadFault r
 Answered answer.Memory r = Unit {0}
 
 -- the same of the bytes of a file that was read
-abbrev pub Judged : Answer → Options → List ℕ → Type 0
-Judged (answer.Text Done written) options bytes = IsReportOf options bytes written.items
-Judged (answer.Text Refused written) options bytes = IsRefusalOf bytes written.items
-Judged answer.Memory options bytes = Unit {0}
-Judged _ options bytes = ⊥
+abbrev pub Judged : Answer → Wanted → List ℕ → Type 0
+Judged (answer.Text Done written) asked bytes = IsDoneOf asked bytes written.items
+Judged (answer.Text Refused written) asked bytes = IsRefusalOf asked bytes written.items
+Judged answer.Memory asked bytes = Unit {0}
+Judged _ asked bytes = ⊥
 
 -- the whole of it was written, without a fault
 pub record Wrote (status : Status) (r : Reading) (old new : SinkState) : Type 0 where
@@ -126,15 +140,16 @@ Outcome Memory r old new = new ≡ old
 Outcome ReadFault r old new = IsReadFaultQuiet r old new
 Outcome WriteFault r old new = IsWriteFault r old new
 
--- a file of told bytes that are the text of a program, which the words name
+-- a file of told bytes that are the text of a program, which the words name, and which can be handled as they want
 pub record IsAccepted (r : Reading) : Type 0 where
-  pub asked : Explored
+  pub asked : Wanted
   pub named : wanted r.words ≡ Some asked
   pub bytes : List ℕ
-  pub told : contents_of r.before.named asked.file ≡ Some bytes
+  pub told : contents_of r.before.named (file_of asked) ≡ Some bytes
   pub short : length bytes ≤ limit
   pub program : ProgramData
   pub reads : Reads bytes program
+  pub built : IsBuiltFor asked program
 
 -- Where the file is accepted and no call failed, the status is Done, or memory ran out.
 abbrev pub IsComplete : Status → Reading → SinkState → SinkState → Type 0

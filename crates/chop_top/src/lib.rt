@@ -4,6 +4,7 @@
 mod accepting;
 mod top;
 
+pub use accepting::a_text_has_one_program;
 pub use top::{Status, chop_main};
 
 #[cfg(test)]

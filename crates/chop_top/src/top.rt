@@ -1,15 +1,18 @@
 //! The top call.
-ghost use Rattle.std.specs.Prelude.{◌≡◌, ◌<◌, ◌≤◌, ◌-◌, ◌^◌, None, map, length, string_bytes, codes, ◌++◌, ◌∷◌, [], IfOk};
-ghost use Rattle.chop_words.specs.Words.{AreInRange};
+ghost use Rattle.std.specs.Prelude.{◌≡◌, ℕ, ◌<◌, ◌≤◌, ◌-◌, ◌^◌, None, List, map, length, string_bytes, IfOk};
+ghost use Rattle.chop_words.specs.Words.{AreInRange, IsInRange, Explored, Printed, wanted_by};
+ghost use Rattle.chop_top.specs.Accepted.{Reads};
 ghost use Rattle.chop_top.specs.Outcomes.{Reading, Outcome, IsComplete, Answered, Judged, Text, limit, IsReport, IsLine, text_or_memory};
 
-use crate::accepting::program_of;
+use crate::accepting::{Stop, accepted};
 use chop_outside::{Fault, Files, Gate, ReadError, Sink, read_whole, write_whole};
 use chop_words::{Command, Options, UsageError, read_words, usage_line};
 use decider::Plain;
-use explorer::{Limits, explore};
+use explorer::{Limits, explore, is_built};
 use flat_ir::Program;
+use ir_tree::printing::print;
 use places::{Home, Opened};
+use refusal_lines::refused_line;
 use report::report;
 use std::alloc::{AllocError, Global};
 use std::marker::Brand;
@@ -36,12 +39,6 @@ enum Answer {
     Text { status: Status, text: Vec<u8> },
     ReadFault,
     Memory,
-}
-
-fn refusal(alloc: Global, name: &str) -> Result<String, AllocError>
-    ensures { IfOk result (λ line. string_bytes line ≡ codes "refused " ++ (name.now ++ 10 ∷ [])) }
-{
-    format!(in alloc; "refused {name}\n")
 }
 
 // The report of a program, whose terms have their places in a table of their own.
@@ -97,16 +94,58 @@ fn line_or_memory(status: Status, written: Result<String, AllocError>) -> Answer
     }
 }
 
-// What the bytes of a file come to.
-fn judged(alloc: Global, options: Options, bytes: &[u8]) -> Answer
+// The report of a program, or that a node of it isn't explored yet.
+fn explored_program(alloc: Global, program: &Program, options: Options) -> Answer
+    requires { AreInRange options }
+    ensures { (bytes file : List ℕ) → Reads bytes program.now → Judged result (Explored options file) bytes }
+{
+    if is_built(program) {
+        text_or_memory(Status::Done, report_of(alloc, program, options))
+    } else {
+        text_or_memory(Status::Refused, refused_line(alloc, "NotBuilt"))
+    }
+}
+
+// The report of the program of a file's bytes, or the line that says why there is none.
+fn explored(alloc: Global, bytes: &[u8], options: Options) -> Answer
     requires short { length bytes.now ≤ limit }
     requires range { AreInRange options }
-    ensures { Judged result options bytes.now }
+    ensures { (file : List ℕ) → Judged result (Explored options file) bytes.now }
 {
-    match program_of(alloc, bytes) {
-        Ok(Some(program)) => text_or_memory(Status::Done, report_of(alloc, &program, options)),
-        Ok(None) => line_or_memory(Status::Refused, refusal(alloc, "NotBuilt")),
-        Err(_) => Answer::Memory,
+    match accepted(alloc, bytes) {
+        Ok((_, program)) => explored_program(alloc, &program, options),
+        Err(Stop::Line(text)) => Answer::Text {
+            status: Status::Refused,
+            text,
+        },
+        Err(Stop::Memory) => Answer::Memory,
+    }
+}
+
+// The text of the module of a file's bytes, or the line that says why there is none.
+fn printed(alloc: Global, bytes: &[u8]) -> Answer
+    requires { length bytes.now ≤ limit }
+    ensures { (file : List ℕ) → Judged result (Printed file) bytes.now }
+{
+    match accepted(alloc, bytes) {
+        Ok((tree, _)) => text_or_memory(Status::Done, print(alloc, &tree)),
+        Err(Stop::Line(text)) => Answer::Text {
+            status: Status::Refused,
+            text,
+        },
+        Err(Stop::Memory) => Answer::Memory,
+    }
+}
+
+// What the bytes of a file come to.
+fn judged(alloc: Global, command: &Command, bytes: &[u8]) -> Answer
+    requires short { length bytes.now ≤ limit }
+    requires range { IsInRange (wanted_by command.now) }
+    ensures { Judged result (wanted_by command.now) bytes.now }
+{
+    match command {
+        Command::Explore { options, .. } => explored(alloc, bytes, *options),
+        Command::Print { .. } => printed(alloc, bytes),
     }
 }
 
@@ -116,16 +155,21 @@ fn answer_to<F: Files>(alloc: Global, words: &[String], files: &mut F) -> Answer
     requires room { (F.state files.old).faults < 2 ^ 64 - 1 }
     ensures { Answered result (record { words = map string_bytes words.now; before = F.state files.old; after = F.state files.new }) }
 {
-    let (options, file) = match read_words(words) {
-        Ok(Command::Explore { options, file }) => (options, file),
+    let command = match read_words(words) {
+        Ok(command) => command,
         Err(UsageError::Usage { index }) => {
             return line_or_memory(Status::Usage, usage_line(alloc, words, index));
         }
         Err(UsageError::Memory) => return Answer::Memory,
     };
+    let Ok(file) = command.file().clone() else {
+        return Answer::Memory;
+    };
     match read_whole(alloc, files, file, LIMIT) {
-        Ok(bytes) => judged(alloc, options, bytes.as_slice()),
-        Err(ReadError::TooLarge) => line_or_memory(Status::Refused, refusal(alloc, "TooLarge")),
+        Ok(bytes) => judged(alloc, &command, bytes.as_slice()),
+        Err(ReadError::TooLarge) => {
+            text_or_memory(Status::Refused, refused_line(alloc, "TooLarge"))
+        }
         Err(ReadError::Fault) => Answer::ReadFault,
         Err(ReadError::Memory) => Answer::Memory,
     }
@@ -142,8 +186,8 @@ fn write_text<S: Sink>(sink: &mut S, status: Status, text: &[u8]) -> Status
     }
 }
 
-/// Reads the words and the file that they name, explores its program, and writes the report or the one line that
-/// says why there is none.
+/// Reads the words and the file that they name, does with its program or module what they ask for, and writes the report, the text or
+/// the one line that says why there is none.
 pub fn chop_main<R: Threads + Wait + Sync, F: Files, S: Sink, G: Gate>(
     _rt: &R,
     alloc: Global,

@@ -1,29 +1,50 @@
--- The words of the program: `explore [--input N] [--steps S] [--leaves B] [--shares A] FILE`. The settings stand in this order, each
--- at most once, each number in the word after its name.
+-- The words of the program:
+--
+--     explore [--input N] [--steps S] [--leaves B] [--shares A] FILE
+--     print FILE
+--
+-- The options of a command stand in any order between its name and its file, each at most once, each number in the word after its name.
 use Rattle.std.specs.Prelude.{ℕ, ◌+◌, ◌*◌, ◌-◌, Bool, true, false, not, ◌&&◌, ◌==◌, nat_le, List, [], ◌∷◌, ◌++◌, length, Option, None, Some, if◌then◌else◌, codes, slice_get, string_bytes, ◌≡◌, ◌≤◌}
 use Rattle.std.specs.Str.{bytes_eq}
 use Rattle.ir_lexer.specs.Forms as forms
 use Rattle.chop_words.specs.declared.options.Options.{Options}
+use Rattle.chop_words.specs.declared.words.Verb.{Verb}
+use Rattle.chop_words.specs.declared.words.Verb.TheVariants as verb
 use Rattle.chop_words.specs.declared.words.Setting.{Setting}
 use Rattle.chop_words.specs.declared.words.Setting.TheVariants.{Input, Steps, Leaves, Shares}
+use Rattle.chop_words.specs.declared.words.Given.{Given}
 use Rattle.chop_words.specs.declared.words.Stage.{Stage}
-use Rattle.chop_words.specs.declared.words.Stage.TheVariants.{Start, From, Number, End}
+use Rattle.chop_words.specs.declared.words.Stage.TheVariants.{Start, Open, Number, End}
 use Rattle.chop_words.specs.declared.words.Heard.{Heard}
 use Rattle.chop_words.specs.declared.commands.Command.{Command}
-use Rattle.chop_words.specs.declared.commands.Command.TheVariants.{Explore}
+use Rattle.chop_words.specs.declared.commands.Command.TheVariants as command
 use Rattle.chop_words.specs.declared.commands.UsageError.{UsageError}
 use Rattle.chop_words.specs.declared.commands.UsageError.TheVariants.{Usage, Memory}
 
--- ---- settings
+-- ---- the table of commands and their options
 
--- the place of a setting among them
-abbrev pub rank : Setting → ℕ
-rank Input = 0
-rank Steps = 1
-rank Leaves = 2
-rank Shares = 3
+-- the command that a word names
+abbrev pub verb_named : List ℕ → Option Verb
+verb_named word =
+    if bytes_eq word (codes "explore") then Some verb.Explore
+    else (if bytes_eq word (codes "print") then Some verb.Print
+    else None)
 
--- the least and the greatest number that it may have
+-- the option that a word names
+abbrev pub named : List ℕ → Option Setting
+named word =
+    if bytes_eq word (codes "--input") then Some Input
+    else (if bytes_eq word (codes "--steps") then Some Steps
+    else (if bytes_eq word (codes "--leaves") then Some Leaves
+    else (if bytes_eq word (codes "--shares") then Some Shares
+    else None)))
+
+-- the options that a command has
+abbrev pub takes : Verb → Setting → Bool
+takes verb.Explore c = true
+takes verb.Print c = false
+
+-- the least and the greatest number that an option may have
 abbrev pub low : Setting → ℕ
 low Input = 0
 low Steps = 1
@@ -35,15 +56,6 @@ high Input = 64
 high Steps = 1000000
 high Leaves = 1000000
 high Shares = 100000
-
--- the setting that a word names
-abbrev pub named : List ℕ → Option Setting
-named word =
-    if bytes_eq word (codes "--input") then Some Input
-    else (if bytes_eq word (codes "--steps") then Some Steps
-    else (if bytes_eq word (codes "--leaves") then Some Leaves
-    else (if bytes_eq word (codes "--shares") then Some Shares
-    else None)))
 
 -- where none is named
 abbrev pub plain : Options
@@ -61,6 +73,23 @@ pub record AreInRange (o : Options) : Type 0 where
   pub steps : (1 ≤ o.steps) × (o.steps ≤ 1000000)
   pub leaves : (1 ≤ o.leaves) × (o.leaves ≤ 1000000)
   pub shares : (1 ≤ o.shares) × (o.shares ≤ 100000)
+
+-- ---- which options were named so far
+
+abbrev pub is_given : Setting → Given → Bool
+is_given Input g = g.input
+is_given Steps g = g.steps
+is_given Leaves g = g.leaves
+is_given Shares g = g.shares
+
+abbrev pub with_given : Setting → Given → Given
+with_given Input g = record g { input = true }
+with_given Steps g = record g { steps = true }
+with_given Leaves g = record g { leaves = true }
+with_given Shares g = record g { shares = true }
+
+abbrev pub none_given : Given
+none_given = record { input = false; steps = false; leaves = false; shares = false }
 
 -- ---- numbers
 
@@ -98,24 +127,28 @@ abbrev pub is_positional : List ℕ → Bool
 is_positional [] = false
 is_positional (b ∷ bs) = not (b == 45)
 
--- a setting that isn't behind its place, or the file
-abbrev pub chosen : ℕ → Heard → Option Setting → Bool → Option Heard
-chosen k s (Some c) positional = if nat_le k (rank c) then Some (record s { stage = Number c }) else None
-chosen k s None positional = if positional then Some (record s { stage = End }) else None
+abbrev pub begun : Heard → Option Verb → Option Heard
+begun s (Some v) = Some (record s { stage = Open v })
+begun s None = None
 
-abbrev pub set : Setting → Heard → Option ℕ → Option Heard
-set c s (Some n) = Some (record { stage = From (rank c + 1); options = with_number c n s.options })
-set c s None = None
+-- an option of the command that wasn't named before, or the file
+abbrev pub chosen : Verb → Heard → Option Setting → Bool → Option Heard
+chosen v s (Some c) positional = if takes v c && not (is_given c s.given) then Some (record s { stage = Number v c }) else None
+chosen v s None positional = if positional then Some (record s { stage = End v }) else None
+
+abbrev pub set : Verb → Setting → Heard → Option ℕ → Option Heard
+set v c s (Some n) = Some (record { stage = Open v; given = with_given c s.given; options = with_number c n s.options })
+set v c s None = None
 
 -- what was heard with a word more, if the word may stand there
 abbrev pub next : Stage → Heard → List ℕ → Option Heard
-next Start s word = if bytes_eq word (codes "explore") then Some (record s { stage = From 0 }) else None
-next (From k) s word = chosen k s (named word) (is_positional word)
-next (Number c) s word = set c s (number_in c word)
-next End s word = None
+next Start s word = begun s (verb_named word)
+next (Open v) s word = chosen v s (named word) (is_positional word)
+next (Number v c) s word = set v c s (number_in c word)
+next (End v) s word = None
 
 abbrev pub nothing_heard : Heard
-nothing_heard = record { stage = Start; options = plain }
+nothing_heard = record { stage = Start; given = none_given; options = plain }
 
 abbrev pub then_heard : Option Heard → List ℕ → Option Heard
 then_heard None word = None
@@ -126,26 +159,35 @@ abbrev pub heard : Option Heard → List (List ℕ) → Option Heard
 heard s [] = s
 heard s (word ∷ words) = heard (then_heard s word) words
 
-abbrev pub options_at : Stage → Options → Option Options
-options_at End o = Some o
-options_at _ o = None
+-- the command with its options, where no word is missing
+abbrev pub asked_at : Stage → Options → Option (Verb × Options)
+asked_at (End v) o = Some (v, o)
+asked_at _ o = None
 
-abbrev pub options_of : Option Heard → Option Options
-options_of None = None
-options_of (Some s) = options_at s.stage s.options
+abbrev pub asked_of : Option Heard → Option (Verb × Options)
+asked_of None = None
+asked_of (Some s) = asked_at s.stage s.options
 
--- what is wanted: to explore a file
-pub record Explored : Type 0 where
-  pub options : Options
-  pub file : List ℕ
+-- what is wanted: to explore the program of a file, or to print its module
+pub data Wanted : Type 0 where
+  Explored : Options → List ℕ → Wanted
+  Printed : List ℕ → Wanted
 
-abbrev pub both : Option Options → Option (List ℕ) → Option Explored
-both (Some o) (Some file) = Some (record { options = o; file = file })
+abbrev pub file_of : Wanted → List ℕ
+file_of (Explored options file) = file
+file_of (Printed file) = file
+
+abbrev pub command_of : Verb → Options → List ℕ → Wanted
+command_of verb.Explore o file = Explored o file
+command_of verb.Print o file = Printed file
+
+abbrev pub both : Option (Verb × Options) → Option (List ℕ) → Option Wanted
+both (Some asked) (Some file) = Some (command_of asked.0 asked.1 file)
 both _ _ = None
 
--- the options and the file, which is the last word, where the words are in the table
-abbrev pub wanted : List (List ℕ) → Option Explored
-wanted words = both (options_of (heard (Some nothing_heard) words)) (slice_get words (length words - 1))
+-- the command with its options and the file, which is the last word, where the words are in the table
+abbrev pub wanted : List (List ℕ) → Option Wanted
+wanted words = both (asked_of (heard (Some nothing_heard) words)) (slice_get words (length words - 1))
 
 abbrev pub counted : Option Heard → ℕ → ℕ
 counted None n = 0
@@ -169,8 +211,14 @@ abbrev pub usage_line : List (List ℕ) → List ℕ
 usage_line words = codes "usage " ++ word_or_end (slice_get words (misfit words)) ++ 10 ∷ []
 
 -- the command as contracts see it
-abbrev pub explored : Command → Explored
-explored (Explore options file) = record { options = options; file = string_bytes file }
+abbrev pub wanted_by : Command → Wanted
+wanted_by (command.Explore options file) = Explored options (string_bytes file)
+wanted_by (command.Print file) = Printed (string_bytes file)
+
+-- the numbers of a command are within their ranges
+abbrev pub IsInRange : Wanted → Type 0
+IsInRange (Explored options file) = AreInRange options
+IsInRange (Printed file) = Unit {0}
 
 -- the words aren't in the table, and this is the place of the first that may not stand where it does
 abbrev pub Misses : UsageError → List (List ℕ) → Type 0

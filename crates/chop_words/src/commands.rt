@@ -1,17 +1,30 @@
 //! Commands: what the words of a call ask for.
 ghost use Rattle.std.specs.Prelude.{◌≡◌, map, string_bytes, Some, IfOk, IfErr};
-ghost use Rattle.chop_words.specs.Words.{wanted, explored, AreInRange, usage_line as usage_in, misfit, Misses};
+ghost use Rattle.chop_words.specs.Words.{wanted, wanted_by, command_of, file_of, IsInRange, AreInRange, usage_line as usage_in, misfit, Misses};
 
 use crate::options::Options;
-use crate::words::{fitting, options_of};
+use crate::words::{Verb, asked_of, fitting};
 use std::alloc::{AllocError, Global};
 use std::fmt;
 use thiserror::Error;
 
-/// A command: to explore a file.
+/// A command: to explore the program of a file, or to print its module.
 #[derive(Drop)]
 pub enum Command {
     Explore { options: Options, file: String },
+    Print { file: String },
+}
+
+impl Command {
+    /// The file that the command names.
+    pub fn file(&self) -> &String
+        ensures { string_bytes result.now ≡ file_of (wanted_by self.now) }
+    {
+        match self {
+            Command::Explore { file, .. } => file,
+            Command::Print { file } => file,
+        }
+    }
 }
 
 /// Why words are no command: they aren't in the table, and `index` is the first that no command has after the words before it,
@@ -30,27 +43,38 @@ impl fmt::Debug for UsageError {
     }
 }
 
-/// The command of words: `explore [--input N] [--steps S] [--leaves B] [--shares A] FILE`, in this order. N is at most 64, S and
-/// B are 1 to 1,000,000, A is 1 to 100,000; where they aren't named they are 4, 100,000, 10,000 and 1,024. A number has no sign
-/// and no 0 in front; a file isn't empty and doesn't begin with a dash.
+fn command_of(verb: Verb, options: Options, file: String) -> Command
+    requires { AreInRange options }
+    ensures value { wanted_by result ≡ command_of verb options (string_bytes file) }
+    ensures range { IsInRange (wanted_by result) }
+{
+    match verb {
+        Verb::Explore => Command::Explore { options, file },
+        Verb::Print => Command::Print { file },
+    }
+}
+
+/// The command of words: `explore [--input N] [--steps S] [--leaves B] [--shares A] FILE` or `print FILE`. Options stand in any
+/// order, each at most once. N is at most 64, S and B are 1 to 1,000,000, A is 1 to 100,000; where they aren't named they are 4,
+/// 100,000, 10,000 and 1,024. A number has no sign and no 0 in front; a file isn't empty and doesn't begin with a dash.
 ///
 /// # Errors
 /// `Usage` exactly where the words aren't in this table; and `Memory`.
 pub fn read_words(words: &[String]) -> Result<Command, UsageError>
     // What is asked for is what the words say.
-    ensures command { IfOk result (λ c. wanted (map string_bytes words.now) ≡ Some (explored c)) }
+    ensures command { IfOk result (λ c. wanted (map string_bytes words.now) ≡ Some (wanted_by c)) }
     // Its numbers are within their ranges.
-    ensures range { IfOk result (λ c. AreInRange (explored c).options) }
+    ensures range { IfOk result (λ c. IsInRange (wanted_by c)) }
     // Words that aren't in the table are refused, at the first that may not stand where it does.
     ensures usage { IfErr result (λ e. Misses e (map string_bytes words.now)) }
 {
-    let (Some(options), Some(file)) = (options_of(words), words.last()) else {
+    let (Some((verb, options)), Some(file)) = (asked_of(words), words.last()) else {
         return Err(UsageError::Usage {
             index: fitting(words),
         });
     };
     match file.clone() {
-        Ok(file) => Ok(Command::Explore { options, file }),
+        Ok(file) => Ok(command_of(verb, options, file)),
         Err(AllocError) => Err(UsageError::Memory),
     }
 }

@@ -17,6 +17,7 @@ fn told(alloc: Global, words: &[&str]) -> Result<String, AllocError> {
             let shares = options.shares;
             format!(in alloc; "{input} {steps} {leaves} {shares} {file}")
         }
+        Ok(Command::Print { file }) => format!(in alloc; "print {file}"),
         Err(UsageError::Usage { index }) => usage_line(alloc, &given, index),
         Err(UsageError::Memory) => Err(AllocError),
     }
@@ -38,6 +39,14 @@ fn commands(rt: HostRuntime) -> Result<(), Fail> {
             .as_slice(),
             "64 1000000 1 100000 F",
         ),
+        (
+            [
+                "explore", "--shares", "7", "--input", "1", "--leaves", "5", "--steps", "9", "F",
+            ]
+            .as_slice(),
+            "1 9 5 7 F",
+        ),
+        (["print", "print"].as_slice(), "print print"),
         (
             ["explore", "--leaves", "2", "x y"].as_slice(),
             "4 100000 2 1024 x y",
@@ -63,8 +72,18 @@ fn usages(rt: HostRuntime) -> Result<(), Fail> {
             "usage 100001\n",
         ),
         (
-            ["explore", "--steps", "5", "--input", "1", "F"].as_slice(),
-            "usage --input\n",
+            [
+                "explore", "--steps", "5", "--input", "1", "--steps", "6", "F",
+            ]
+            .as_slice(),
+            "usage --steps\n",
+        ),
+        (["print"].as_slice(), "usage end\n"),
+        (["print", "--steps", "5", "F"].as_slice(), "usage --steps\n"),
+        (["print", "F", "G"].as_slice(), "usage G\n"),
+        (
+            ["explore", "--input", "--steps", "5", "F"].as_slice(),
+            "usage --steps\n",
         ),
         (
             ["explore", "--steps", "5", "--steps", "5", "F"].as_slice(),

@@ -2,10 +2,16 @@
 ghost use Rattle.std.specs.Prelude.{◌≡◌, ◌≤◌, ◌<◌, ℕ, List, ◌∷◌, IfSome, map, string_bytes, Some};
 ghost use Rattle.chop_words.specs.Words as spec;
 ghost use Rattle.chop_words.specs.Words.{AreInRange};
-ghost use Rattle.chop_words.specs.declared.words.Stage.TheVariants.{Start};
 
 use crate::options::Options;
 use ir_lexer::classes::is_number;
+
+/// What is to be done.
+#[derive(Clone, Copy, Debug, PartialEq, Eq)]
+pub enum Verb {
+    Explore,
+    Print,
+}
 
 /// An option that has a number.
 #[derive(Clone, Copy, Debug, PartialEq, Eq)]
@@ -16,24 +22,40 @@ pub enum Setting {
     Shares,
 }
 
-/// What may stand next: the command, a setting from a place on or the file, a setting's number, or nothing.
+/// Which options were named.
+#[derive(Clone, Copy, Debug)]
+pub struct Given {
+    pub input: bool,
+    pub steps: bool,
+    pub leaves: bool,
+    pub shares: bool,
+}
+
+/// What may stand next: the command, one of its options or its file, an option's number, or nothing.
 #[derive(Clone, Copy, Debug)]
 pub enum Stage {
     Start,
-    From(u8),
-    Number(Setting),
-    End,
+    Open(Verb),
+    Number(Verb, Setting),
+    End(Verb),
 }
 
 /// What was heard so far.
 #[derive(Clone, Copy, Debug)]
 pub struct Heard {
     pub stage: Stage,
+    pub given: Given,
     pub options: Options,
 }
 
 const NOTHING: Heard = Heard {
     stage: Stage::Start,
+    given: Given {
+        input: false,
+        steps: false,
+        leaves: false,
+        shares: false,
+    },
     options: Options {
         input: 4,
         steps: 100_000,
@@ -42,15 +64,58 @@ const NOTHING: Heard = Heard {
     },
 };
 
-fn rank(setting: Setting) -> u8
-    ensures rank { result ≡ spec.rank setting }
-    ensures small { result < 4 }
+fn verb_named(word: &str) -> Option<Verb>
+    ensures { result ≡ spec.verb_named word.now }
+{
+    match word {
+        "explore" => Some(Verb::Explore),
+        "print" => Some(Verb::Print),
+        _ => None,
+    }
+}
+
+fn takes(verb: Verb, setting: Setting) -> bool
+    ensures { result ≡ spec.takes verb setting }
+{
+    match verb {
+        Verb::Explore => match setting {
+            Setting::Input | Setting::Steps | Setting::Leaves | Setting::Shares => true,
+        },
+        Verb::Print => false,
+    }
+}
+
+fn is_given(setting: Setting, given: Given) -> bool
+    ensures { result ≡ spec.is_given setting given }
 {
     match setting {
-        Setting::Input => 0,
-        Setting::Steps => 1,
-        Setting::Leaves => 2,
-        Setting::Shares => 3,
+        Setting::Input => given.input,
+        Setting::Steps => given.steps,
+        Setting::Leaves => given.leaves,
+        Setting::Shares => given.shares,
+    }
+}
+
+fn with_given(setting: Setting, given: Given) -> Given
+    ensures { result ≡ spec.with_given setting given }
+{
+    match setting {
+        Setting::Input => Given {
+            input: true,
+            ..given
+        },
+        Setting::Steps => Given {
+            steps: true,
+            ..given
+        },
+        Setting::Leaves => Given {
+            leaves: true,
+            ..given
+        },
+        Setting::Shares => Given {
+            shares: true,
+            ..given
+        },
     }
 }
 
@@ -196,22 +261,33 @@ fn at_stage(stage: Stage, heard: Heard) -> Heard
     Heard { stage, ..heard }
 }
 
-fn chosen(place: u8, heard: Heard, named: Option<Setting>, positional: bool) -> Option<Heard>
+fn begun(heard: Heard, verb: Option<Verb>) -> Option<Heard>
     requires { AreInRange heard.options }
-    ensures value { result ≡ spec.chosen place heard named positional }
+    ensures value { result ≡ spec.begun heard verb }
+    ensures range { IfSome result (λ h. AreInRange h.options) }
+{
+    match verb {
+        Some(verb) => Some(at_stage(Stage::Open(verb), heard)),
+        None => None,
+    }
+}
+
+fn chosen(verb: Verb, heard: Heard, named: Option<Setting>, positional: bool) -> Option<Heard>
+    requires { AreInRange heard.options }
+    ensures value { result ≡ spec.chosen verb heard named positional }
     ensures range { IfSome result (λ h. AreInRange h.options) }
 {
     match named {
         Some(setting) => {
-            if place <= rank(setting) {
-                Some(at_stage(Stage::Number(setting), heard))
+            if takes(verb, setting) && !is_given(setting, heard.given) {
+                Some(at_stage(Stage::Number(verb, setting), heard))
             } else {
                 None
             }
         }
         None => {
             if positional {
-                Some(at_stage(Stage::End, heard))
+                Some(at_stage(Stage::End(verb), heard))
             } else {
                 None
             }
@@ -219,29 +295,18 @@ fn chosen(place: u8, heard: Heard, named: Option<Setting>, positional: bool) -> 
     }
 }
 
-fn set(setting: Setting, heard: Heard, word: &str) -> Option<Heard>
+fn set(verb: Verb, setting: Setting, heard: Heard, word: &str) -> Option<Heard>
     requires { AreInRange heard.options }
-    ensures value { result ≡ spec.set setting heard (spec.number_in setting word.now) }
+    ensures value { result ≡ spec.set verb setting heard (spec.number_in setting word.now) }
     ensures range { IfSome result (λ h. AreInRange h.options) }
 {
     match number_in(setting, word) {
         Some(number) => Some(Heard {
-            stage: Stage::From(rank(setting) + 1),
+            stage: Stage::Open(verb),
+            given: with_given(setting, heard.given),
             options: with_number(setting, number, heard.options),
         }),
         None => None,
-    }
-}
-
-fn begun(heard: Heard, word: &str) -> Option<Heard>
-    requires { AreInRange heard.options }
-    ensures value { result ≡ spec.next Start heard word.now }
-    ensures range { IfSome result (λ h. AreInRange h.options) }
-{
-    if word == "explore" {
-        Some(at_stage(Stage::From(0), heard))
-    } else {
-        None
     }
 }
 
@@ -252,10 +317,10 @@ fn next(heard: Heard, word: &str) -> Option<Heard>
     ensures range { IfSome result (λ h. AreInRange h.options) }
 {
     match heard.stage {
-        Stage::Start => begun(heard, word),
-        Stage::From(place) => chosen(place, heard, named(word), is_positional(word)),
-        Stage::Number(setting) => set(setting, heard, word),
-        Stage::End => None,
+        Stage::Start => begun(heard, verb_named(word)),
+        Stage::Open(verb) => chosen(verb, heard, named(word), is_positional(word)),
+        Stage::Number(verb, setting) => set(verb, setting, heard, word),
+        Stage::End(_) => None,
     }
 }
 
@@ -296,18 +361,19 @@ pub fn fitting(words: &[String]) -> usize
     words.len()
 }
 
-/// The options of an exploration, where the words are in the table.
-pub fn options_of(words: &[String]) -> Option<Options>
-    ensures value { result ≡ spec.options_of (spec.heard (Some spec.nothing_heard) (map string_bytes words.now)) }
-    ensures range { IfSome result AreInRange }
+/// The command with its options, where the words are in the table.
+pub fn asked_of(words: &[String]) -> Option<(Verb, Options)>
+    ensures value { result ≡ spec.asked_of (spec.heard (Some spec.nothing_heard) (map string_bytes words.now)) }
+    ensures range { IfSome result (λ asked. AreInRange asked.1) }
 {
     match hear_all(words) {
         Some(
             Heard {
-                stage: Stage::End,
+                stage: Stage::End(verb),
                 options,
+                ..
             },
-        ) => Some(options),
+        ) => Some((verb, options)),
         _ => None,
     }
 }

@@ -9,3 +9,4 @@ pub mod Views
 pub mod Calls
 pub mod Offers
 pub mod Turns
+pub mod Built

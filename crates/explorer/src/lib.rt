@@ -2,6 +2,7 @@
 #![tactic(auto)]
 
 mod attempts;
+mod built;
 mod exploring;
 mod laws;
 mod moments;
@@ -9,6 +10,7 @@ mod sides;
 mod states;
 mod values;
 
+pub use built::is_built;
 pub use exploring::explore;
 pub use laws::{exploring_has_one_result, leaves_are_right};
 pub use states::{Cause, Ending, Leaf, Limits, Turn};

@@ -2,24 +2,17 @@
 use Rattle.std.specs.Prelude.{ℕ, ◌+◌, ◌-◌, ◌/◌, ◌%◌, nat_lt, Bool, List, [], ◌∷◌, ◌++◌, length, count_by, codes, true, false, Option, Some, None, if◌then◌else◌}
 use Rattle.std.specs.Fmt.{decimal}
 use Rattle.chop_words.specs.declared.options.Options.{Options}
-use Rattle.ir_tree.specs.Texts.{name_text}
+use Rattle.name_texts.specs.Lines.{line, function_text}
 use Rattle.flat_ir.specs.declared.names.FuncId.{FuncId}
 use Rattle.flat_ir.specs.declared.names.NodeId.{NodeId}
-use Rattle.flat_ir.specs.declared.program.Func.{Func}
 use Rattle.flat_ir.specs.declared.program.ProgramData.{ProgramData}
 use Rattle.flat_ir.specs.declared.values.FaultKind.{FaultKind}
 use Rattle.flat_ir.specs.declared.values.FaultKind.TheVariants as fault
-use Rattle.flat_ir.specs.Machine.{func_at}
 use Rattle.terms.specs.Tree.{Tree}
 use Rattle.terms.specs.Value.{value_of, ReadsBelow}
 use Rattle.explorer.specs.declared.states.Cause.{Cause}
 use Rattle.explorer.specs.declared.states.Cause.TheVariants as cause
 use Rattle.explorer.specs.States.{Ending, Complete, Fault, Open, Found}
-
--- these pieces one after another, and a line feed
-abbrev pub line : List (List ℕ) → List ℕ
-line [] = 10 ∷ []
-line (piece ∷ pieces) = piece ++ line pieces
 
 abbrev pub options_line : Options → List ℕ
 options_line o =
@@ -69,14 +62,6 @@ cause_text cause.Steps = codes "steps"
 cause_text cause.Solver = codes "solver"
 cause_text cause.Shares = codes "shares"
 cause_text cause.Unexplored = codes "unexplored"
-
--- a function's name, with quotes if it needs them
-abbrev pub named : Option Func → List ℕ
-named None = []
-named (Some f) = name_text f.name
-
-abbrev pub function_text : ProgramData → FuncId → List ℕ
-function_text p f = named (func_at p f)
 
 -- ---- lines
 

@@ -6,10 +6,11 @@ ghost use Rattle.explorer.specs.Views.{leaf_seen, ending_seen};
 ghost use Rattle.report.specs.Report as spec;
 ghost use Rattle.report.specs.Report.{IsRead, IsShown};
 
-use crate::texts::{cause_text, fault_text, put_function, put_input, status_text};
+use crate::texts::{cause_text, fault_text, put_input, status_text};
 use chop_words::Options;
 use explorer::{Cause, Ending, Leaf};
 use flat_ir::{FaultKind, FuncId, NodeId, Program};
+use name_texts::put_function;
 use places::Home;
 use plain_list::Sequence;
 use std::alloc::{AllocError, Global};
