@@ -198,8 +198,7 @@ pub at-most-one : (n : ℕ) (v : Tree) (cs : List SwitchCase) (i : List ℕ) →
 at-most-one n v [] i h e = tt
 at-most-one n v (c ∷ cs) i h e =
     let parts = both (is_case (width_of v) c.number) (not (is_among c.number.bits cs) && are_cases (width_of v) cs) e in
-    let more = both (not (is_among c.number.bits cs)) (are_cases (width_of v) cs) parts.1 in
-    (
+    let more = both (not (is_among c.number.bits cs)) (are_cases (width_of v) cs) parts.1 in (
       λ met. cases-none n v cs c.number.bits i h more.1 (not-true (is_among c.number.bits cs) more.0) (eqb-true (value_of v i).bits c.number.bits (sym (met-case n v c i h (case-fits n v c h parts.0)) ∙ met)),
       at-most-one n v cs i h more.1,
     )

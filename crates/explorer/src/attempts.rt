@@ -19,10 +19,10 @@ use crate::moments::{
 };
 use crate::sides::{Machine, Tested, sides_of};
 use crate::states::{Answer, Cause, Ending, State};
+use crate::switches::{are_cases, switch_sides, switch_ways};
 use crate::values::{cast, choice, comparison, has_quotient, is_nonzero, number_of, width_of_type};
 use bitnum::{BinOp, Pred};
 use decider::Decide;
-use crate::switches::{are_cases, switch_sides, switch_ways};
 use flat_ir::{CastOp, FaultKind, Node, NodeId, Operand, RegId, RegType, SwitchCase};
 use places::Home;
 use std::alloc::AllocError;
