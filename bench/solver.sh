@@ -3,6 +3,9 @@
 #   equal   each byte is a number                                       has a model
 #   sum     the sum of the bytes is two numbers at once                 has none
 #   less    each byte is less than the next, the last than the first    has none
+#   mul     the product of the bytes is a number                        has a model
+#   urem    the remainder of each byte by 10 is a number                has a model
+#   table   what each byte finds in a table of 32 numbers is a number   has a model
 # Where minisat is installed, its time on the same clauses stands beside the search's.
 set -euo pipefail
 cd "$(dirname "$0")/../crates/bench_solver"
@@ -29,7 +32,7 @@ cost() {
 }
 file=$(mktemp --suffix .cnf)
 trap 'rm -f "$file"' EXIT
-for kind in equal sum less; do
+for kind in equal sum less mul urem table; do
     for bytes in 1 2 4 8; do
         clauses=$("$program" clauses "$kind" "$bytes" 0)
         made=$(cost clauses "$kind" "$bytes" 20)

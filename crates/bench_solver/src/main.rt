@@ -1,5 +1,5 @@
 //! Work on conditions whose time `bench/solver.sh` compares:
-//! `bench_solver clauses|search|dimacs equal|sum|less BYTES TIMES`.
+//! `bench_solver clauses|search|dimacs equal|sum|less|mul|urem|table BYTES TIMES`.
 #![tactic(auto)]
 
 mod conditions;
@@ -41,6 +41,9 @@ fn kind_named(word: &str) -> Option<Kind> {
         "equal" => Some(Kind::Equal),
         "sum" => Some(Kind::Sum),
         "less" => Some(Kind::Less),
+        "mul" => Some(Kind::Mul),
+        "urem" => Some(Kind::Urem),
+        "table" => Some(Kind::Table),
         _ => None,
     }
 }
@@ -141,7 +144,7 @@ fn main(rt: HostRuntime) -> io::Result<()> {
         words.next(),
         words.next(),
     ) else {
-        println!(rt; "usage: bench_solver clauses|search|dimacs equal|sum|less BYTES TIMES")?;
+        println!(rt; "usage: bench_solver clauses|search|dimacs equal|sum|less|mul|urem|table BYTES TIMES")?;
         return Ok(());
     };
     let (Some(work), Some(kind), Ok(bytes), Ok(times)) = (

@@ -2,7 +2,7 @@
 use Rattle.std.proofs.Common.{◌≡◌, ℕ, zero, suc, Bool, true, false, not, ◌&&◌, ◌==◌, ◌+◌, ◌-◌, ◌%◌, ◌^◌, ◌<◌, ◌≤◌, List, [], ◌∷◌, ◌++◌, map, drop, length, slice_set, Option, Some, None, unwrap_or, refl, sym, ◌∙◌, ap, subst, arith, add-one, All, lit≤, ◌⊎◌, inl, inr}
 use Rattle.std.specs.Prelude.{cond, slice_get, nat_lt, nat_le}
 use Rattle.std.specs.Option.{option_map}
-use Rattle.std.proofs.lemmas.Bool.{cases_Bool, eqb-true, eqb-false, leb-true, leb-false, false≢true}
+use Rattle.std.proofs.lemmas.Bool.{cases_Bool, eqb-true, eqb-false, eq-eqb, ne_eqb, leb-true, leb-false, false≢true, not-true}
 use Rattle.std.proofs.lemmas.Option.{none-some, slice_get_past}
 use Rattle.std.proofs.lemmas.List.Elements.{recursion_from_All}
 use Rattle.std.proofs.Math.Nat.{mod-eq_of_lt}
@@ -25,6 +25,7 @@ use Rattle.flat_ir.specs.declared.nodes.Node.TheVariants as node
 use Rattle.flat_ir.specs.declared.nodes.Operand.{Operand}
 use Rattle.flat_ir.specs.declared.nodes.Operand.TheVariants as operand
 use Rattle.flat_ir.specs.declared.nodes.RegType.{RegType}
+use Rattle.flat_ir.specs.declared.nodes.SwitchCase.{SwitchCase}
 use Rattle.flat_ir.specs.declared.nodes.RegType.TheVariants as type
 use Rattle.flat_ir.specs.declared.program.ProgramData.{ProgramData}
 use Rattle.flat_ir.specs.declared.values.ConcreteValue.{ConcreteValue}
@@ -38,24 +39,25 @@ use Rattle.flat_ir.specs.Machine.{Event, Branched, Loaded, Entered, Returned, En
 use Rattle.flat_ir.specs.Skipped.{outside}
 use Rattle.flat_ir.specs.Sound.{IsInput}
 use Rattle.flat_ir.specs.Steps as concrete
-use Rattle.flat_ir.specs.Steps.{unless, division_fault, by_zero, by_zero_or_overflow, related, bit, number_in, call_result, call_next, width_of, cast_to}
+use Rattle.flat_ir.specs.Steps.{unless, division_fault, by_zero, by_zero_or_overflow, related, bit, number_in, case_of, call_result, call_next, width_of, cast_to}
 use Rattle.terms.specs.Tree as tree
 use Rattle.terms.specs.Tree.{Tree, constant, input}
 use Rattle.terms.specs.Value.{truth, is_yes, value_of, byte_of, is_met_by}
 use Rattle.terms.specs.declared.term.Unary.TheVariants.{Zext, Sext, Trunc}
 use Rattle.terms.specs.declared.term.Binary.TheVariants.{Bin}
 use Rattle.terms.specs.Folding.{folded_one, folded_two, folded_choice}
-use Rattle.terms.proofs.Folds.{number_eq, value-folded_one, value-folded_two, value-folded_choice, width-folded_one}
+use Rattle.terms.proofs.Folds.{both, number_eq, value-folded_one, value-folded_two, value-folded_choice, width-folded_one}
 use Rattle.terms.proofs.Numbers.{width-value_of}
 use Rattle.explorer.specs.States.{Frame, Moment, Ending, Complete, Fault, Open}
-use Rattle.explorer.specs.Values.{fitting, zero_register, number_of, negation, compared, of_two, cast, cast_of, chosen, chosen_of, status_of, read_at}
-use Rattle.explorer.specs.Plans.{Test, Outcome, To, Stops, Plan, Does, Chooses, unexplored, at_node, sets, divisor_test, quotient_test, signed_tests, tests_of_division, operates, branches, set_result, resumed, returns_to, returns, returns_value, with_first, numbers_of, entered, calls, reads, exits, fails, casts, moved_to, moves, outcome, plan}
-use Rattle.explorer.specs.Sides.{along}
+use Rattle.explorer.specs.Values.{fitting, zero_register, number_of, negation, equal, compared, of_two, cast, cast_of, chosen, chosen_of, status_of, read_at}
+use Rattle.explorer.specs.Plans.{Test, Outcome, To, Stops, Plan, Does, Chooses, unexplored, at_node, sets, divisor_test, quotient_test, signed_tests, tests_of_division, operates, branches, is_case, is_among, are_cases, case_sides, none_of, switch_sides, switch_ways, switches, set_result, resumed, returns_to, returns, returns_value, with_first, numbers_of, entered, calls, reads, exits, fails, casts, moved_to, moves, outcome, plan}
+use Rattle.explorer.specs.Sides.{along, along_to}
 use Rattle.explorer.specs.Leaves.{event_of}
 use Rattle.explorer.specs.Fits.{IsTerm, IsValue, AreValues, MomentFits}
 use Rattle.explorer.proofs.Keeping.{number_of-is, read_at-is, cast-tree}
 use Rattle.explorer.proofs.Frees.{output-ended, position-ended}
-use Rattle.explorer.proofs.Splitting.{met-negation}
+use Rattle.explorer.proofs.Splitting.{met-negation, met-case, met-none, none_met, AtMostOne, at-most-one}
+use Rattle.explorer.proofs.Fitted.{case-fits, cases-fit}
 use Rattle.explorer.proofs.Valued.{value-compared, met-nonzero, met-quotient, value-low_byte}
 
 -- a term has the value of a register; an empty one says nothing
@@ -540,8 +542,60 @@ branches-go n i k m a first second (Some t) h p ax = plan-if i k (tree.width_of 
     (λ e. choose-goes i k m t first second ((number_in m a).bits == 1) h (ap (λ v. v.bits == 1) (sym (number-of i k m a t h ax)))
     (met-negation n t i (record { term = p; one_bit = eqb-true _ _ e }) ∙ ap (λ v. not (v.bits == 1)) (sym (number-of i k m a t h ax)))) tt
 
+-- an input that meets none of the terms meets no side
+unmet-end : (i : List ℕ) (ts : List Tree) (d : Tree) (j : ℕ) → none_met i ts ≡ true → is_met_by i d ≡ false → MeetsAt i (ts ++ d ∷ []) j → ⊥
+unmet-end i [] d zero e away met = false≢true (sym away ∙ met)
+unmet-end i [] d (suc j) e away met = met
+unmet-end i (t ∷ ts) d zero e away met = false≢true (sym (not-true (is_met_by i t) (both (not (is_met_by i t)) (none_met i ts) e).0) ∙ met)
+unmet-end i (t ∷ ts) d (suc j) e away met = unmet-end i ts d j (both (not (is_met_by i t)) (none_met i ts) e).1 away met
+
+-- the side that an input meets is the one that the run takes
+abbrev Takes : ℕ → ℕ → List SwitchCase → NodeId → ℕ → Type 0
+Takes b first cs otherwise j = (next : NodeId) × (slice_get (switch_ways cs otherwise) j ≡ Some next) × (case_of b first cs otherwise ≡ (first + j, next))
+
+case-taken : (n : ℕ) (i : List ℕ) (v : Tree) (cs : List SwitchCase) (otherwise : NodeId) (d : Tree) (first j : ℕ) → IsTerm n v → are_cases (tree.width_of v) cs ≡ true → is_met_by i d ≡ none_met i (case_sides v cs)
+    → MeetsAt i (case_sides v cs ++ d ∷ []) j → Takes (value_of v i).bits first cs otherwise j
+case-taken n i v [] otherwise d first zero h e none met = (otherwise, refl, let z : first ≡ first + 0 = omega arith in ap (λ k. (k, otherwise)) z)
+case-taken n i v [] otherwise d first (suc j) h e none met = absurd met
+case-taken n i v (c ∷ cs) otherwise d first zero h e none met =
+    let parts = both (is_case (tree.width_of v) c.number) (not (is_among c.number.bits cs) && are_cases (tree.width_of v) cs) e in
+    let same : (value_of v i).bits ≡ c.number.bits = eqb-true _ _ (sym (met-case n v c i h (case-fits n v c h parts.0)) ∙ met) in
+    let z : first ≡ first + 0 = omega arith in
+    (c.to, refl, ap (λ q. cond q (first, c.to) (case_of (value_of v i).bits (first + 1) cs otherwise)) (eq-eqb c.number.bits (value_of v i).bits (sym same)) ∙ ap (λ k. (k, c.to)) z)
+case-taken n i v (c ∷ cs) otherwise d first (suc j) h e none met =
+    elim (cases_Bool (is_met_by i (equal v (constant c.number)))) [
+      | inl here ↦ absurd (unmet-end i (case_sides v cs) d j ((at-most-one n v (c ∷ cs) i h e).0 here) (none ∙ ap (λ b. not b && none_met i (case_sides v cs)) here) met)
+      | inr away ↦ later away (λ more. case-taken n i v cs otherwise d (first + 1) j h more (none ∙ ap (λ b. not b && none_met i (case_sides v cs)) away) met)
+    ]
+  where
+    later : is_met_by i (equal v (constant c.number)) ≡ false → (are_cases (tree.width_of v) cs ≡ true → Takes (value_of v i).bits (first + 1) cs otherwise j) → Takes (value_of v i).bits first (c ∷ cs) otherwise (suc j)
+    later away taken =
+        let parts = both (is_case (tree.width_of v) c.number) (not (is_among c.number.bits cs) && are_cases (tree.width_of v) cs) e in
+        let more = both (not (is_among c.number.bits cs)) (are_cases (tree.width_of v) cs) parts.1 in
+        let rest = taken more.1 in
+        let other : (c.number.bits == (value_of v i).bits) ≡ false = ne_eqb c.number.bits (value_of v i).bits (λ f. eqb-false (value_of v i).bits c.number.bits (sym (met-case n v c i h (case-fits n v c h parts.0)) ∙ away) (sym f)) in
+        let z : first + 1 + j ≡ first + suc j = omega arith in
+        (rest.0, rest.1, ap (λ q. cond q (first, c.to) (case_of (value_of v i).bits (first + 1) cs otherwise)) other ∙ rest.2 ∙ ap (λ k. (k, rest.0)) z)
+
+choose-case : (n : ℕ) (i : List ℕ) (k : Moment) (m : machine.State) (v : Tree) (cs : List SwitchCase) (otherwise : NodeId) → Agrees i k m → IsTerm n v → are_cases (tree.width_of v) cs ≡ true
+    → (j : ℕ) → MeetsAt i (switch_sides v cs) j
+    → GoesOn i (along (switch_ways cs otherwise) j k) (concrete.branches (case_of (value_of v i).bits 0 cs otherwise).0 (case_of (value_of v i).bits 0 cs otherwise).1 m)
+choose-case n i k m v cs otherwise h p e j met =
+    let taken = case-taken n i v cs otherwise (none_of (case_sides v cs)) 0 j p e (met-none n (case_sides v cs) i (cases-fit n v cs p e)) met in
+    let z : 0 + j ≡ j = omega arith in
+    subst (λ w. GoesOn i (along_to w j k) (concrete.branches (case_of (value_of v i).bits 0 cs otherwise).0 (case_of (value_of v i).bits 0 cs otherwise).1 m)) (sym taken.1)
+    (subst (λ s. GoesOn i (along_to (Some taken.0) j k) (concrete.branches s.0 s.1 m)) (sym (taken.2 ∙ ap (λ q. (q, taken.0)) z)) (turn-goes i k m j taken.0 h))
+
+switches-go : (n : ℕ) (i : List ℕ) (k : Moment) (m : machine.State) (a : Operand) (cs : List SwitchCase) (otherwise : NodeId) (x : Option Tree) → Agrees i k m → IsValue n x → number_of k.frame.regs a ≡ x
+    → PlanGoes i k (switches cs otherwise x) (concrete.branches (case_of (number_in m a).bits 0 cs otherwise).0 (case_of (number_in m a).bits 0 cs otherwise).1 m)
+switches-go n i k m a cs otherwise None h p ax = tt
+switches-go n i k m a cs otherwise (Some v) h p ax =
+    subst (λ u. PlanGoes i k (switches cs otherwise (Some v)) (concrete.branches (case_of u.bits 0 cs otherwise).0 (case_of u.bits 0 cs otherwise).1 m)) (sym (number-of i k m a v h ax))
+    (plan-if i k (are_cases (tree.width_of v) cs) (Chooses (switch_sides v cs) (switch_ways cs otherwise)) (Does [] unexplored) _ (λ e. choose-case n i k m v cs otherwise h p e) tt)
+
 -- each node's plan goes along with the run
 pub plan-goes : (n : ℕ) (i : List ℕ) (p : ProgramData) (at : Node) (k : Moment) (m : machine.State) → IsInput n i → n ≤ 64 → MomentFits n k → Agrees i k m → PlanGoes i k (plan p n at k) (concrete.attempt p i at m)
 plan-goes n i p (node.Bin op a b r next) k m is most fits h = operates-goes n i k m op a b r next (number_of k.frame.regs a) (number_of k.frame.regs b) h (number_of-is n k.frame.regs a fits.frame) (number_of-is n k.frame.regs b fits.frame) refl refl
 plan-goes n i p (node.Branch c first second) k m is most fits h = branches-go n i k m c first second (number_of k.frame.regs c) h (number_of-is n k.frame.regs c fits.frame) refl
+plan-goes n i p (node.Switch v cases otherwise) k m is most fits h = switches-go n i k m v cases otherwise (number_of k.frame.regs v) h (number_of-is n k.frame.regs v fits.frame) refl
 plan-goes n i p at k m is most fits h = outcome-goes n i p at k m is most fits h

@@ -1,7 +1,7 @@
 -- Attempts keep what holds of states.
-use Rattle.std.proofs.Common.{◌≡◌, ℕ, zero, suc, Bool, true, false, ◌&&◌, ◌==◌, ◌+◌, ◌-◌, ◌<◌, ◌≤◌, List, [], ◌∷◌, ◌++◌, map, drop, length, slice_set, Option, Some, None, unwrap_or, refl, sym, ◌∙◌, ap, subst, arith}
+use Rattle.std.proofs.Common.{◌≡◌, ℕ, zero, suc, Bool, true, false, ◌&&◌, ◌==◌, ◌+◌, ◌-◌, ◌^◌, ◌<◌, ◌≤◌, List, [], ◌∷◌, ◌++◌, map, drop, length, slice_set, Option, Some, None, unwrap_or, refl, sym, ◌∙◌, ap, subst, arith, not, lit≤}
 use Rattle.std.specs.Prelude.{cond, slice_get, nat_lt}
-use Rattle.std.proofs.lemmas.Bool.{eqb-true}
+use Rattle.std.proofs.lemmas.Bool.{eqb-true, leb-true}
 use Rattle.decider.specs.declared.Verdict.{Verdict}
 use Rattle.decider.specs.declared.Verdict.TheVariants.{Sat, Unsat, Spent}
 use Rattle.bitnum.specs.declared.BinOp.{BinOp}
@@ -13,12 +13,15 @@ use Rattle.flat_ir.specs.declared.nodes.MoveSet.{MoveSet}
 use Rattle.flat_ir.specs.declared.nodes.Node.{Node}
 use Rattle.flat_ir.specs.declared.nodes.Node.TheVariants as node
 use Rattle.flat_ir.specs.declared.nodes.Operand.{Operand}
+use Rattle.flat_ir.specs.declared.nodes.SwitchCase.{SwitchCase}
+use Rattle.bitnum.specs.Number.{IsWidth}
 use Rattle.flat_ir.specs.declared.program.ProgramData.{ProgramData}
 use Rattle.flat_ir.specs.declared.values.FaultKind.{FaultKind}
 use Rattle.flat_ir.specs.Machine.{node_at, regs_of, func_at}
 use Rattle.flat_ir.specs.Steps.{call_result}
 use Rattle.terms.specs.declared.term.Binary.TheVariants.{Bin}
-use Rattle.terms.specs.Tree.{Tree, width_of}
+use Rattle.terms.specs.Tree.{Tree, IsTree, constant, width_of}
+use Rattle.terms.proofs.Folds.{both, width-folded_two}
 use Rattle.terms.specs.Value.{is_met_by}
 use Rattle.terms.specs.Folding.{folded_two}
 use Rattle.term_store.specs.Condition.{answer}
@@ -26,11 +29,11 @@ use Rattle.term_store.specs.declared.conditions.Added.{Added}
 use Rattle.term_store.specs.declared.conditions.Added.TheVariants.{Held, Appended, Contradicted}
 use Rattle.explorer.specs.States.{Frame, Moment, State, Ending, Complete, Fault, Open, Found, ended, Setting, Child, Go, Stop, Answer, Goes, Ends, Forks}
 use Rattle.explorer.specs.Values.{number_of, negation, of_two, compared, status_of, read_at}
-use Rattle.explorer.specs.Plans.{Test, Outcome, To, Stops, Plan, Does, Chooses, sets, at_node, divisor_test, quotient_test, signed_tests, tests_of_division, operates, branches, set_result, resumed, returns_to, returns, returns_value, with_first, numbers_of, entered, calls, reads, exits, fails, casts, moved_to, moves, outcome, plan}
+use Rattle.explorer.specs.Plans.{Test, Outcome, To, Stops, Plan, Does, Chooses, sets, at_node, divisor_test, quotient_test, signed_tests, tests_of_division, operates, branches, is_case, is_among, are_cases, case_sides, and_none, none_of, switch_sides, switch_ways, switches, set_result, resumed, returns_to, returns, returns_value, with_first, numbers_of, entered, calls, reads, exits, fails, casts, moved_to, moves, outcome, plan}
 use Rattle.explorer.specs.Sides.{Offspring, Lives, Spends, by_verdict, candidate, offspring_of, offsprings, held_side, Offer, Alone, Several, alone, settled, offer, share_of, along_to, along, child_of, children_of, forks, taken, reached, tested, test_of, passes, carried}
 use Rattle.explorer.specs.Exploring.{executed, attempt, zeros, first_state}
 use Rattle.explorer.specs.Fits.{IsTerm, IsValue, AreValues, FramesFit, MomentFits, IsTruth, AreTruths, StateFits, EndingFits, HasSize, LeafFits, ChildFits, ChildrenFit, AnswerFits, HaveSize}
-use Rattle.explorer.proofs.Keeping.{number_of-is, set-are, append-are, zeros-are, comparison-is, cast_of-is, chosen_of-is, status-is, read_at-is, negation-is, is_nonzero-is, has_quotient-is, two-is}
+use Rattle.explorer.proofs.Keeping.{number_of-is, set-are, append-are, zeros-are, comparison-is, cast_of-is, chosen_of-is, status-is, read_at-is, negation-is, is_nonzero-is, has_quotient-is, two-is, tree-width, equal-is}
 
 -- ---- nodes
 
@@ -146,16 +149,61 @@ branches-fit : (n : ℕ) (first second : NodeId) (x : Option Tree) → IsValue n
 branches-fit n first second None h = (tt, tt)
 branches-fit n first second (Some c) h = plan-if n (width_of c == 1) _ _ (λ e. let truth : IsTruth n c = record { term = h; one_bit = eqb-true _ _ e } in (truth, (negation-is n c truth, tt))) (tt, tt)
 
-pub plan-fits : (n : ℕ) (p : ProgramData) (at : Node) (m : Moment) → n ≤ 64 → MomentFits n m → PlanFits n (plan p n at m)
-plan-fits n p (node.Bin op a b r next) m most fits = operates-fits n op r next m (number_of m.frame.regs a) (number_of m.frame.regs b) (number_of-is n m.frame.regs a fits.frame) (number_of-is n m.frame.regs b fits.frame) fits
-plan-fits n p (node.Branch c first second) m most fits = branches-fit n first second (number_of m.frame.regs c) (number_of-is n m.frame.regs c fits.frame)
-plan-fits n p at m most fits = (tt, outcome-fits n p at m most fits)
+-- a case's number is as wide as the value
+pub record CaseFits (n : ℕ) (v : Tree) (c : SwitchCase) : Type 0 where
+  pub term : IsTerm n (constant c.number)
+  pub alike : width_of v ≡ c.number.width
 
--- ---- sides
+pub case-fits : (n : ℕ) (v : Tree) (c : SwitchCase) → IsTerm n v → is_case (width_of v) c.number ≡ true → CaseFits n v c
+case-fits n v c h e =
+    let parts = both (c.number.width == width_of v) (nat_lt c.number.bits (2 ^ width_of v)) e in
+    let same : width_of v ≡ c.number.width = sym (eqb-true _ _ parts.0) in
+    let small : c.number.bits < 2 ^ width_of v = leb-true (suc c.number.bits) (2 ^ width_of v) parts.1 in
+    record {
+      term = record { tree = record { width_is = subst IsWidth same (tree-width v h.tree); fits = subst (λ w. c.number.bits < 2 ^ w) same small }; reads = tt };
+      alike = same;
+    }
+
+pub cases-fit : (n : ℕ) (v : Tree) (cs : List SwitchCase) → IsTerm n v → are_cases (width_of v) cs ≡ true → AreTruths n (case_sides v cs)
+cases-fit n v [] h e = tt
+cases-fit n v (c ∷ cs) h e =
+    let parts = both (is_case (width_of v) c.number) (not (is_among c.number.bits cs) && are_cases (width_of v) cs) e in
+    let more = both (not (is_among c.number.bits cs)) (are_cases (width_of v) cs) parts.1 in
+    let fits = case-fits n v c h parts.0 in
+    (equal-is n v (constant c.number) h fits.term fits.alike, cases-fit n v cs h more.1)
+
+pub and-is : (n : ℕ) (a b : Tree) → IsTruth n a → IsTruth n b → IsTruth n (folded_two (Bin ops.And) a b)
+and-is n a b h k =
+    let same : width_of a ≡ width_of b = h.one_bit ∙ sym k.one_bit in
+    record { term = two-is n (Bin ops.And) a b h.term k.term same; one_bit = width-folded_two (Bin ops.And) a b (h.term.tree, k.term.tree, same) ∙ h.one_bit }
+
+pub and_none-is : (n : ℕ) (t : Tree) (us : List Tree) → IsTruth n t → AreTruths n us → IsTruth n (and_none t us)
+and_none-is n t [] h k = h
+and_none-is n t (u ∷ us) h k = and_none-is n (folded_two (Bin ops.And) t (negation u)) us (and-is n t (negation u) h (negation-is n u k.0)) k.1
+
+pub yes-is : (n : ℕ) → IsTruth n (constant (record { width = 1; bits = 1 }))
+yes-is n = record { term = record { tree = record { width_is = record { least = lit≤ tt; most = lit≤ tt }; fits = lit≤ tt }; reads = tt }; one_bit = refl }
 
 pub truths-append : (n : ℕ) (c : List Tree) (t : Tree) → AreTruths n c → IsTruth n t → AreTruths n (c ++ t ∷ [])
 truths-append n [] t h k = (k, tt)
 truths-append n (u ∷ c) t h k = (h.0, truths-append n c t h.1 k)
+
+pub switch-are : (n : ℕ) (v : Tree) (cs : List SwitchCase) → IsTerm n v → are_cases (width_of v) cs ≡ true → AreTruths n (switch_sides v cs)
+switch-are n v cs h e =
+    let fit = cases-fit n v cs h e in
+    truths-append n (case_sides v cs) (none_of (case_sides v cs)) fit (and_none-is n (constant (record { width = 1; bits = 1 })) (case_sides v cs) (yes-is n) fit)
+
+switches-fit : (n : ℕ) (cs : List SwitchCase) (otherwise : NodeId) (x : Option Tree) → IsValue n x → PlanFits n (switches cs otherwise x)
+switches-fit n cs otherwise None h = (tt, tt)
+switches-fit n cs otherwise (Some v) h = plan-if n (are_cases (width_of v) cs) _ _ (λ e. switch-are n v cs h e) (tt, tt)
+
+pub plan-fits : (n : ℕ) (p : ProgramData) (at : Node) (m : Moment) → n ≤ 64 → MomentFits n m → PlanFits n (plan p n at m)
+plan-fits n p (node.Bin op a b r next) m most fits = operates-fits n op r next m (number_of m.frame.regs a) (number_of m.frame.regs b) (number_of-is n m.frame.regs a fits.frame) (number_of-is n m.frame.regs b fits.frame) fits
+plan-fits n p (node.Branch c first second) m most fits = branches-fit n first second (number_of m.frame.regs c) (number_of-is n m.frame.regs c fits.frame)
+plan-fits n p (node.Switch v cases otherwise) m most fits = switches-fit n cases otherwise (number_of m.frame.regs v) (number_of-is n m.frame.regs v fits.frame)
+plan-fits n p at m most fits = (tt, outcome-fits n p at m most fits)
+
+-- ---- sides
 
 abbrev pub OffspringsFit : ℕ → List Offspring → Type 0
 OffspringsFit n [] = Unit {0}

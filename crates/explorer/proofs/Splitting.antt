@@ -1,25 +1,29 @@
 -- The leaves split the inputs: an input that meets a state's condition meets the condition of one child.
 use Rattle.std.proofs.Common.{◌≡◌, ℕ, zero, suc, Bool, true, false, not, ◌&&◌, ◌==◌, ◌+◌, ◌-◌, ◌^◌, ◌<◌, ◌≤◌, List, [], ◌∷◌, ◌++◌, map, length, Option, Some, None, refl, sym, ◌∙◌, ap, subst, arith, zero-add, add_assoc}
-use Rattle.std.specs.Prelude.{cond, nat_lt, count_by}
-use Rattle.std.proofs.lemmas.Bool.{cases_Bool, eqb-true, eqb-false}
+use Rattle.std.specs.Prelude.{cond, nat_lt, count_by, ◌||◌}
+use Rattle.std.proofs.lemmas.Bool.{cases_Bool, eqb-true, eqb-false, eq-eqb, ne_eqb, not-true, false≢true}
 use Rattle.std.proofs.lemmas.List.Sums.{sum_by-cons}
 use Rattle.decider.specs.declared.Verdict.{Verdict}
 use Rattle.decider.specs.declared.Verdict.TheVariants.{Sat, Unsat, Spent}
 use Rattle.bitnum.specs.declared.BinOp.{BinOp}
+use Rattle.bitnum.specs.declared.BinOp.TheVariants as ops
+use Rattle.bitnum.specs.Number.{Number}
+use Rattle.bitnum.specs.Operations.{applied}
 use Rattle.flat_ir.specs.declared.names.NodeId.{NodeId}
 use Rattle.flat_ir.specs.declared.names.RegId.{RegId}
 use Rattle.flat_ir.specs.declared.nodes.Node.{Node}
 use Rattle.flat_ir.specs.declared.nodes.Node.TheVariants as node
+use Rattle.flat_ir.specs.declared.nodes.SwitchCase.{SwitchCase}
 use Rattle.flat_ir.specs.declared.program.ProgramData.{ProgramData}
 use Rattle.flat_ir.specs.declared.values.FaultKind.{FaultKind}
 use Rattle.flat_ir.specs.Machine.{node_at}
 use Rattle.flat_ir.specs.Sound.{IsInput}
 use Rattle.terms.specs.declared.term.Unary.TheVariants.{Not}
-use Rattle.terms.specs.declared.term.Binary.TheVariants.{Bin}
+use Rattle.terms.specs.declared.term.Binary.TheVariants.{Bin, Eq}
 use Rattle.terms.specs.Folding.{folded_two}
-use Rattle.terms.specs.Tree.{Tree, IsTree, one, width_of}
-use Rattle.terms.specs.Value.{value_of, is_yes, is_met_by, are_met_by}
-use Rattle.terms.proofs.Folds.{value-folded_one}
+use Rattle.terms.specs.Tree.{Tree, IsTree, constant, one, width_of}
+use Rattle.terms.specs.Value.{truth, value_of, is_yes, is_met_by, are_met_by}
+use Rattle.terms.proofs.Folds.{both, value-folded_one, value-folded_two}
 use Rattle.terms.proofs.Numbers.{value_is, width-value_of}
 use Rattle.term_store.specs.Condition.{answer, after, MeetsAlso}
 use Rattle.term_store.specs.declared.conditions.Added.{Added}
@@ -27,13 +31,13 @@ use Rattle.term_store.specs.declared.conditions.Added.TheVariants.{Held, Appende
 use Rattle.term_store.proofs.Meets.{meets_also}
 use Rattle.explorer.proofs.Mets.{met-append}
 use Rattle.explorer.specs.States.{Moment, State, Ending, Found, ended, Setting, Child, Go, Stop, Answer, Goes, Ends, Forks}
-use Rattle.explorer.specs.Values.{number_of, negation}
-use Rattle.explorer.specs.Plans.{Test, Outcome, To, Stops, Plan, Does, Chooses, unexplored, sets, tests_of_division, operates, branches, plan}
+use Rattle.explorer.specs.Values.{number_of, negation, equal}
+use Rattle.explorer.specs.Plans.{Test, Outcome, To, Stops, Plan, Does, Chooses, unexplored, sets, tests_of_division, operates, branches, is_case, is_among, are_cases, case_sides, and_none, none_of, switch_sides, switch_ways, switches, plan}
 use Rattle.explorer.specs.Sides.{Offspring, Lives, Spends, by_verdict, candidate, offspring_of, offsprings, held_side, Offer, Alone, Several, alone, settled, offer, child_of, share_of, children_of, forks, taken, reached, tested, passes, carried}
 use Rattle.explorer.specs.Exploring.{executed, attempt, Explores, none, stop, leaf, step, fork}
 use Rattle.explorer.specs.Leaves.{claim_of}
 use Rattle.explorer.specs.Fits.{IsTerm, IsValue, MomentFits, IsTruth, AreTruths, StateFits, LeafFits, ChildFits, ChildrenFit, AnswerFits, HaveSize, AreRightVerdicts}
-use Rattle.explorer.proofs.Fitted.{PlanFits, TestsFit, OutcomeFits, truths-append, OfferFits, offer-fits, attempt-fits, plan-fits}
+use Rattle.explorer.proofs.Fitted.{PlanFits, TestsFit, OutcomeFits, truths-append, OfferFits, offer-fits, attempt-fits, plan-fits, CaseFits, case-fits, cases-fit, and-is, yes-is}
 use Rattle.explorer.proofs.Keeping.{number_of-is, negation-is}
 use Rattle.explorer.proofs.Turning.{children-append}
 
@@ -111,6 +115,125 @@ AreSides ts = (i : List ℕ) (met : Bool) → met_sides i met ts ≡ one_if met
 
 pub both-sides : (n : ℕ) (t : Tree) → IsTruth n t → AreSides (t ∷ negation t ∷ [])
 both-sides n t h i met = ap (λ b. one_if (met && is_met_by i t) + (one_if (met && b) + 0)) (met-negation n t i h) ∙ either met (is_met_by i t)
+
+-- ---- the sides of a switch
+
+pub yes-truth : (b : Bool) → is_yes (truth b) ≡ b
+yes-truth true = refl
+yes-truth false = refl
+
+-- an input meets a case's side where the value has its number
+pub met-case : (n : ℕ) (v : Tree) (c : SwitchCase) (i : List ℕ) → IsTerm n v → CaseFits n v c → is_met_by i (equal v (constant c.number)) ≡ ((value_of v i).bits == c.number.bits)
+met-case n v c i h f = ap is_yes (value-folded_two Eq v (constant c.number) i (h.tree, f.term.tree, f.alike)) ∙ yes-truth ((value_of v i).bits == c.number.bits)
+
+and-bits : (a b : Number) → a.bits < 2 → b.bits < 2 → is_yes (applied ops.And a b) ≡ (is_yes a && is_yes b)
+and-bits a b h k = by-bits a.bits b.bits h k
+  where
+    by-bits : (p q : ℕ) → p < 2 → q < 2 → is_yes (applied ops.And (record { width = a.width; bits = p }) (record { width = b.width; bits = q })) ≡ ((p == 1) && (q == 1))
+    by-bits zero zero h k = refl
+    by-bits zero (suc zero) h k = refl
+    by-bits (suc zero) zero h k = refl
+    by-bits (suc zero) (suc zero) h k = refl
+    by-bits (suc (suc p)) q h k = absurd (omega (arith, h))
+    by-bits zero (suc (suc q)) h k = absurd (omega (arith, k))
+    by-bits (suc zero) (suc (suc q)) h k = absurd (omega (arith, k))
+
+met-and : (n : ℕ) (a b : Tree) (i : List ℕ) → IsTruth n a → IsTruth n b → is_met_by i (folded_two (Bin ops.And) a b) ≡ (is_met_by i a && is_met_by i b)
+met-and n a b i h k =
+    let same : width_of a ≡ width_of b = h.one_bit ∙ sym k.one_bit in
+    ap is_yes (value-folded_two (Bin ops.And) a b i (h.term.tree, k.term.tree, same))
+    ∙ and-bits (value_of a i) (value_of b i) (bit-small a i h.term.tree h.one_bit) (bit-small b i k.term.tree k.one_bit)
+
+-- an input meets none of the terms
+abbrev pub none_met : List ℕ → List Tree → Bool
+none_met i [] = true
+none_met i (t ∷ ts) = not (is_met_by i t) && none_met i ts
+
+and-true : (p : Bool) → p ≡ (p && true)
+and-true true = refl
+and-true false = refl
+
+regroup : (p q r : Bool) → ((p && q) && r) ≡ (p && (q && r))
+regroup true q r = refl
+regroup false q r = refl
+
+met-and_none : (n : ℕ) (t : Tree) (us : List Tree) (i : List ℕ) → IsTruth n t → AreTruths n us → is_met_by i (and_none t us) ≡ (is_met_by i t && none_met i us)
+met-and_none n t [] i h k = and-true (is_met_by i t)
+met-and_none n t (u ∷ us) i h k =
+    let other = negation-is n u k.0 in
+    met-and_none n (folded_two (Bin ops.And) t (negation u)) us i (and-is n t (negation u) h other) k.1
+    ∙ ap (λ b. b && none_met i us) (met-and n t (negation u) i h other ∙ ap (λ b. is_met_by i t && b) (met-negation n u i k.0))
+    ∙ regroup (is_met_by i t) (not (is_met_by i u)) (none_met i us)
+
+pub met-none : (n : ℕ) (us : List Tree) (i : List ℕ) → AreTruths n us → is_met_by i (none_of us) ≡ none_met i us
+met-none n us i k = met-and_none n (constant (record { width = 1; bits = 1 })) us i (yes-is n) k
+
+abbrev pub AtMostOne : List ℕ → List Tree → Type 0
+AtMostOne i [] = Unit {0}
+AtMostOne i (t ∷ ts) = (is_met_by i t ≡ true → none_met i ts ≡ true) × AtMostOne i ts
+
+neither : (p q : Bool) → (p || q) ≡ false → (p ≡ false) × (q ≡ false)
+neither false false e = (refl, refl)
+neither true q e = absurd (false≢true (sym e))
+neither false true e = absurd (false≢true (sym e))
+
+other-number : (b c k : ℕ) → b ≡ k → (c == k) ≡ false → (b == c) ≡ false
+other-number b c k e h = ne_eqb b c (λ f. eqb-false c k h (sym f ∙ e))
+
+both-hold : (p q : Bool) → p ≡ true → q ≡ true → (p && q) ≡ true
+both-hold p q h k = rw (h, k) refl
+
+cases-none : (n : ℕ) (v : Tree) (cs : List SwitchCase) (k : ℕ) (i : List ℕ) → IsTerm n v → are_cases (width_of v) cs ≡ true → is_among k cs ≡ false → (value_of v i).bits ≡ k → none_met i (case_sides v cs) ≡ true
+cases-none n v [] k i h e away is = refl
+cases-none n v (c ∷ cs) k i h e away is =
+    let parts = both (is_case (width_of v) c.number) (not (is_among c.number.bits cs) && are_cases (width_of v) cs) e in
+    let more = both (not (is_among c.number.bits cs)) (are_cases (width_of v) cs) parts.1 in
+    let others = neither (c.number.bits == k) (is_among k cs) away in
+    both-hold (not (is_met_by i (equal v (constant c.number)))) (none_met i (case_sides v cs))
+    (ap not (met-case n v c i h (case-fits n v c h parts.0) ∙ other-number (value_of v i).bits c.number.bits k is others.0))
+    (cases-none n v cs k i h more.1 others.1 is)
+
+-- of different numbers the value has one at most
+pub at-most-one : (n : ℕ) (v : Tree) (cs : List SwitchCase) (i : List ℕ) → IsTerm n v → are_cases (width_of v) cs ≡ true → AtMostOne i (case_sides v cs)
+at-most-one n v [] i h e = tt
+at-most-one n v (c ∷ cs) i h e =
+    let parts = both (is_case (width_of v) c.number) (not (is_among c.number.bits cs) && are_cases (width_of v) cs) e in
+    let more = both (not (is_among c.number.bits cs)) (are_cases (width_of v) cs) parts.1 in (
+      λ met. cases-none n v cs c.number.bits i h more.1 (not-true (is_among c.number.bits cs) more.0) (eqb-true (value_of v i).bits c.number.bits (sym (met-case n v c i h (case-fits n v c h parts.0)) ∙ met)),
+      at-most-one n v cs i h more.1,
+    )
+
+turned-sum : (n : ℕ) → n + 0 ≡ 0 + n
+turned-sum n = omega arith
+
+met-end : (i : List ℕ) (met : Bool) (ts : List Tree) (d : Tree) → met_sides i met (ts ++ d ∷ []) ≡ met_sides i met ts + one_if (met && is_met_by i d)
+met-end i met [] d = turned-sum (one_if (met && is_met_by i d))
+met-end i met (t ∷ ts) d = ap (λ n. one_if (met && is_met_by i t) + n) (met-end i met ts d) ∙ sym (add_assoc (one_if (met && is_met_by i t)) (met_sides i met ts) (one_if (met && is_met_by i d)))
+
+unmet-one : (met b : Bool) (rest : ℕ) → not b ≡ true → rest ≡ 0 → one_if (met && b) + rest ≡ 0
+unmet-one met true rest e z = absurd (false≢true e)
+unmet-one true false rest e z = omega (arith, z)
+unmet-one false false rest e z = omega (arith, z)
+
+none-count : (i : List ℕ) (met : Bool) (ts : List Tree) → none_met i ts ≡ true → met_sides i met ts ≡ 0
+none-count i met [] e = refl
+none-count i met (t ∷ ts) e = let parts = both (not (is_met_by i t)) (none_met i ts) e in unmet-one met (is_met_by i t) (met_sides i met ts) parts.0 (none-count i met ts parts.1)
+
+one-more : (met b q : Bool) (rest : ℕ) → (b ≡ true → rest ≡ 0) → rest + one_if (met && q) ≡ one_if met → one_if (met && b) + rest + one_if (met && (not b && q)) ≡ one_if met
+one-more true true q rest z h = let e : rest ≡ 0 = z refl in omega (arith, e)
+one-more true false q rest z h = (let e : 0 + rest ≡ rest = omega arith in ap (λ n. n + one_if q) e) ∙ h
+one-more false b q rest z h = let e : rest + 0 ≡ 0 = h in omega (arith, e)
+
+one-count : (i : List ℕ) (met : Bool) (ts : List Tree) → AtMostOne i ts → met_sides i met ts + one_if (met && none_met i ts) ≡ one_if met
+one-count i true [] h = refl
+one-count i false [] h = refl
+one-count i met (t ∷ ts) h = one-more met (is_met_by i t) (none_met i ts) (met_sides i met ts) (λ is. none-count i met ts (h.0 is)) (one-count i met ts h.1)
+
+switch-split : (n : ℕ) (v : Tree) (cs : List SwitchCase) → IsTerm n v → are_cases (width_of v) cs ≡ true → AreSides (switch_sides v cs)
+switch-split n v cs h e i met =
+    met-end i met (case_sides v cs) (none_of (case_sides v cs))
+    ∙ ap (λ b. met_sides i met (case_sides v cs) + one_if (met && b)) (met-none n (case_sides v cs) i (cases-fit n v cs h e))
+    ∙ one-count i met (case_sides v cs) (at-most-one n v cs i h e)
 
 -- ---- offers and answers
 
@@ -202,9 +325,14 @@ branches-sides : (n : ℕ) (first second : NodeId) (x : Option Tree) → IsValue
 branches-sides n first second None h = tt
 branches-sides n first second (Some c) h = sides-if (width_of c == 1) (Chooses (c ∷ negation c ∷ []) (first ∷ second ∷ [])) (Does [] unexplored) (λ e. both-sides n c (record { term = h; one_bit = eqb-true _ _ e })) tt
 
+switches-sides : (n : ℕ) (cs : List SwitchCase) (otherwise : NodeId) (x : Option Tree) → IsValue n x → PlanSides (switches cs otherwise x)
+switches-sides n cs otherwise None h = tt
+switches-sides n cs otherwise (Some v) h = sides-if (are_cases (width_of v) cs) (Chooses (switch_sides v cs) (switch_ways cs otherwise)) (Does [] unexplored) (λ e. switch-split n v cs h e) tt
+
 plan-sides : (n : ℕ) (p : ProgramData) (at : Node) (m : Moment) → MomentFits n m → PlanSides (plan p n at m)
 plan-sides n p (node.Bin op a b r next) m fits = operates-sides op r next m (number_of m.frame.regs a) (number_of m.frame.regs b)
 plan-sides n p (node.Branch c first second) m fits = branches-sides n first second (number_of m.frame.regs c) (number_of-is n m.frame.regs c fits.frame)
+plan-sides n p (node.Switch v cases otherwise) m fits = switches-sides n cases otherwise (number_of m.frame.regs v) (number_of-is n m.frame.regs v fits.frame)
 plan-sides n p at m fits = tt
 
 -- an attempt's answer splits the inputs that meet the state's condition

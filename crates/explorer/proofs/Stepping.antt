@@ -7,6 +7,7 @@ use Rattle.bitnum.specs.declared.Pred.{Pred}
 use Rattle.flat_ir.specs.declared.names.FuncId.{FuncId}
 use Rattle.flat_ir.specs.declared.nodes.CastOp.{CastOp}
 use Rattle.flat_ir.specs.declared.nodes.MoveSet.{MoveSet}
+use Rattle.flat_ir.specs.declared.nodes.SwitchCase.{SwitchCase}
 use Rattle.flat_ir.specs.declared.program.ProgramData.{ProgramData}
 use Rattle.flat_ir.specs.declared.names.NodeId.{NodeId}
 use Rattle.flat_ir.specs.declared.names.RegId.{RegId}
@@ -41,10 +42,12 @@ attempt-left c s h = ap (λ b. cond b (Ends (ended (Open Steps) s)) (executed c 
 pub plain-carried : {H E : Type 0} (c : Setting) (at : Node) (s : State) (made : Result (code.Answer H) E)
     → ((op : BinOp) (a b : Operand) (r : RegId) (next : NodeId) → at ≡ node.Bin op a b r next → ⊥)
     → ((a : Operand) (first second : NodeId) → at ≡ node.Branch a first second → ⊥)
+    → ((a : Operand) (cases : List SwitchCase) (otherwise : NodeId) → at ≡ node.Switch a cases otherwise → ⊥)
     → IfOk made (λ r. answer_seen r ≡ reached (outcome c.program c.inputs at s.moment) s) → IfOk made (λ r. answer_seen r ≡ carried c (plan c.program c.inputs at s.moment) s)
-plain-carried c (node.Bin op a b r next) s made bin branch h = absurd (bin op a b r next refl)
-plain-carried c (node.Branch a first second) s made bin branch h = absurd (branch a first second refl)
-plain-carried c at s made bin branch h = h
+plain-carried c (node.Bin op a b r next) s made bin branch switch h = absurd (bin op a b r next refl)
+plain-carried c (node.Branch a first second) s made bin branch switch h = absurd (branch a first second refl)
+plain-carried c (node.Switch a cases otherwise) s made bin branch switch h = absurd (switch a cases otherwise refl)
+plain-carried c at s made bin branch switch h = h
 
 -- a node of no kind that is explored
 pub unexplored-outcome : (p : ProgramData) (n : ℕ) (at : Node) (m : Moment)

@@ -21,7 +21,7 @@ use Rattle.terms.proofs.Numbers.{value_is, width-value_of}
 use Rattle.explorer.specs.Values.{negation, equal, compared, low_byte, is_nonzero, is_least, is_ones, has_quotient}
 use Rattle.explorer.specs.Fits.{IsTerm, IsTruth}
 use Rattle.explorer.proofs.Keeping.{equal-is, compared-is, is_least-is, is_ones-is, two-is, tree-width, half}
-use Rattle.explorer.proofs.Splitting.{met-negation}
+use Rattle.explorer.proofs.Splitting.{met-negation, yes-truth}
 
 truth-not : (b : Bool) → one_of Not (truth b) ≡ truth (not b)
 truth-not true = refl
@@ -48,10 +48,6 @@ value-compared n pred.Sgt a b i h k e = (value-two n b a i k h (sym e)).2
 value-compared n pred.Sge a b i h k e = value-not n (folded_two Slt a b) i _ (compared-is n pred.Slt a b h k e) (value-two n a b i h k e).2
 value-compared n pred.Slt a b i h k e = (value-two n a b i h k e).2
 value-compared n pred.Sle a b i h k e = value-not n (folded_two Slt b a) i _ (compared-is n pred.Slt b a k h (sym e)) (value-two n b a i k h (sym e)).2
-
-pub yes-truth : (b : Bool) → is_yes (truth b) ≡ b
-yes-truth true = refl
-yes-truth false = refl
 
 -- ---- the tests of divisions
 

@@ -63,6 +63,7 @@ is_explored types (node.Call callee args r next) = are_numbers types args && has
 is_explored types (node.Moves sets next) = are_moved types sets
 is_explored types (node.Jump next) = true
 is_explored types (node.Branch c first second) = is_number types c
+is_explored types (node.Switch v cases otherwise) = is_number types v
 is_explored types (node.Ret value) = is_number_if types value
 is_explored types (node.Exit status) = is_number types status
 is_explored types node.Abort = true

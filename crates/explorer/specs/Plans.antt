@@ -1,8 +1,9 @@
 -- What a node does, apart from conditions: it makes tests, in order, and behind them the program stands elsewhere or ends; or it
 -- chooses between sides. A node follows the section of the LLVM Language Reference's "Instruction Reference" of its name. What
 -- isn't explored yet (memory, pointers, output) ends Open.
-use Rattle.std.specs.Prelude.{ℕ, suc, ◌==◌, List, [], ◌∷◌, ◌++◌, length, map, drop, Option, Some, None, slice_get, slice_set, if◌then◌else◌}
+use Rattle.std.specs.Prelude.{ℕ, suc, ◌^◌, ◌==◌, ◌&&◌, ◌||◌, Bool, true, false, not, nat_lt, List, [], ◌∷◌, ◌++◌, length, map, drop, Option, Some, None, slice_get, slice_set, if◌then◌else◌}
 use Rattle.std.specs.Option.{option_map}
+use Rattle.bitnum.specs.Number.{Number}
 use Rattle.bitnum.specs.declared.BinOp.{BinOp}
 use Rattle.bitnum.specs.declared.BinOp.TheVariants.{Udiv, Sdiv, Urem, Srem, And}
 use Rattle.flat_ir.specs.declared.names.FuncId.{FuncId}
@@ -13,6 +14,7 @@ use Rattle.flat_ir.specs.declared.nodes.MoveSet.{MoveSet}
 use Rattle.flat_ir.specs.declared.nodes.Node.{Node}
 use Rattle.flat_ir.specs.declared.nodes.Node.TheVariants as node
 use Rattle.flat_ir.specs.declared.nodes.Operand.{Operand}
+use Rattle.flat_ir.specs.declared.nodes.SwitchCase.{SwitchCase}
 use Rattle.flat_ir.specs.declared.program.ProgramData.{ProgramData}
 use Rattle.flat_ir.specs.declared.values.FaultKind.{FaultKind}
 use Rattle.flat_ir.specs.declared.values.FaultKind.TheVariants as fault
@@ -20,7 +22,7 @@ use Rattle.flat_ir.specs.Machine.{regs_of, func_at, node_at, type_at}
 use Rattle.flat_ir.specs.Steps.{width_of, call_result, call_next}
 use Rattle.terms.specs.declared.term.Binary.TheVariants.{Bin}
 use Rattle.terms.specs.Tree as tree
-use Rattle.terms.specs.Tree.{Tree}
+use Rattle.terms.specs.Tree.{Tree, constant}
 use Rattle.terms.specs.Folding.{folded_two}
 use Rattle.explorer.specs.declared.states.Cause.TheVariants.{Unexplored}
 use Rattle.explorer.specs.States.{Frame, Moment, Setting, Ending, Complete, Fault, Open}
@@ -80,6 +82,45 @@ abbrev pub branches : NodeId → NodeId → Option Tree → Plan
 branches first second None = Does [] unexplored
 branches first second (Some c) =
     if tree.width_of c == 1 then Chooses (c ∷ negation c ∷ []) (first ∷ second ∷ []) else Does [] unexplored
+
+-- the numbers of a switch's cases: they have so many bits, and no two are equal, as in each program that is read
+abbrev pub is_case : ℕ → Number → Bool
+is_case width n = (n.width == width) && nat_lt n.bits (2 ^ width)
+
+abbrev pub is_among : ℕ → List SwitchCase → Bool
+is_among bits [] = false
+is_among bits (c ∷ cs) = (c.number.bits == bits) || is_among bits cs
+
+abbrev pub are_cases : ℕ → List SwitchCase → Bool
+are_cases width [] = true
+are_cases width (c ∷ cs) = is_case width c.number && (not (is_among c.number.bits cs) && are_cases width cs)
+
+-- the value is the number of a case, for each in order
+abbrev pub case_sides : Tree → List SwitchCase → List Tree
+case_sides v [] = []
+case_sides v (c ∷ cs) = equal v (constant c.number) ∷ case_sides v cs
+
+-- the 'and' of a term and the negations of others, from the left
+abbrev pub and_none : Tree → List Tree → Tree
+and_none t [] = t
+and_none t (u ∷ us) = and_none (folded_two (Bin And) t (negation u)) us
+
+-- the 'and' of the negations, from the left, or 1 if there are none: folding leaves out the 1 of one bit
+abbrev pub none_of : List Tree → Tree
+none_of ts = and_none (constant (record { width = 1; bits = 1 })) ts
+
+-- the sides of a switch: its cases in order, and the default
+abbrev pub switch_sides : Tree → List SwitchCase → List Tree
+switch_sides v cs = case_sides v cs ++ none_of (case_sides v cs) ∷ []
+
+abbrev pub switch_ways : List SwitchCase → NodeId → List NodeId
+switch_ways [] otherwise = otherwise ∷ []
+switch_ways (c ∷ cs) otherwise = c.to ∷ switch_ways cs otherwise
+
+abbrev pub switches : List SwitchCase → NodeId → Option Tree → Plan
+switches cs otherwise None = Does [] unexplored
+switches cs otherwise (Some v) =
+    if are_cases (tree.width_of v) cs then Chooses (switch_sides v cs) (switch_ways cs otherwise) else Does [] unexplored
 
 -- a frame's end: main's is the program's, and another returns to its caller
 abbrev pub set_result : Option RegId → Option Tree → List (Option Tree) → List (Option Tree)
@@ -163,8 +204,9 @@ outcome p inputs (node.Assert args) m = fails fault.Assert m
 outcome p inputs node.Unreachable m = fails fault.Unreachable m
 outcome p inputs _ m = unexplored
 
--- what a node does where the program stands: the binary operations may make tests, and 'br' with a condition takes a side
+-- what a node does where the program stands: the binary operations may make tests, and 'br' with a condition and 'switch' take a side
 abbrev pub plan : ProgramData → ℕ → Node → Moment → Plan
 plan p inputs (node.Bin op a b r next) m = operates op r next m (number_of m.frame.regs a) (number_of m.frame.regs b)
 plan p inputs (node.Branch c first second) m = branches first second (number_of m.frame.regs c)
+plan p inputs (node.Switch v cases otherwise) m = switches cases otherwise (number_of m.frame.regs v)
 plan p inputs n m = Does [] (outcome p inputs n m)

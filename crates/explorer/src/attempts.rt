@@ -19,10 +19,11 @@ use crate::moments::{
 };
 use crate::sides::{Machine, Tested, sides_of};
 use crate::states::{Answer, Cause, Ending, State};
+use crate::switches::{are_cases, switch_sides, switch_ways};
 use crate::values::{cast, choice, comparison, has_quotient, is_nonzero, number_of, width_of_type};
 use bitnum::{BinOp, Pred};
 use decider::Decide;
-use flat_ir::{CastOp, FaultKind, Node, NodeId, Operand, RegId, RegType};
+use flat_ir::{CastOp, FaultKind, Node, NodeId, Operand, RegId, RegType, SwitchCase};
 use places::Home;
 use std::alloc::AllocError;
 use terms::{Term, bin};
@@ -342,6 +343,63 @@ impl<'a, H: Home, D: Decide> Machine<'a, H, D> {
         }
     }
 
+    // Takes a side of a switch.
+    fn switches_on(
+        &self,
+        state: State<H>,
+        value: &Term<H>,
+        cases: &[SwitchCase],
+        default: NodeId,
+    ) -> Result<Answer<H>, AllocError>
+        requires inputs { self.now.limits.inputs ≤ 64 }
+        requires budget { 1 ≤ self.now.limits.budget }
+        requires fits { StateFits self.now.limits.inputs (state_seen state) }
+        requires term { IsTerm self.now.limits.inputs value.now }
+        ensures { IfOk result (λ r. answer_seen r ≡ spec.carried (setting_of self.now.program.now self.now.limits) (plans.switches cases.now default (Some value.now)) (state_seen state)) }
+    {
+        if !are_cases(value.width(), cases) {
+            return Ok(unexplored(state));
+        }
+        let sides = switch_sides(self.terms, value, cases)?;
+        let ways = switch_ways(self.terms.alloc(), cases, default)?;
+        self.chooses(state, sides.as_slice(), ways.as_slice())
+    }
+
+    fn switches_with(
+        &self,
+        state: State<H>,
+        value: &Option<Term<H>>,
+        cases: &[SwitchCase],
+        default: NodeId,
+    ) -> Result<Answer<H>, AllocError>
+        requires inputs { self.now.limits.inputs ≤ 64 }
+        requires budget { 1 ≤ self.now.limits.budget }
+        requires fits { StateFits self.now.limits.inputs (state_seen state) }
+        requires value { IsValue self.now.limits.inputs value.now }
+        ensures { IfOk result (λ r. answer_seen r ≡ spec.carried (setting_of self.now.program.now self.now.limits) (plans.switches cases.now default value.now) (state_seen state)) }
+    {
+        match value {
+            Some(number) => self.switches_on(state, number, cases, default),
+            None => Ok(unexplored(state)),
+        }
+    }
+
+    fn switches(
+        &self,
+        state: State<H>,
+        value: &Operand,
+        cases: &[SwitchCase],
+        default: NodeId,
+    ) -> Result<Answer<H>, AllocError>
+        requires inputs { self.now.limits.inputs ≤ 64 }
+        requires budget { 1 ≤ self.now.limits.budget }
+        requires fits { StateFits self.now.limits.inputs (state_seen state) }
+        ensures { IfOk result (λ r. answer_seen r ≡ spec.carried (setting_of self.now.program.now self.now.limits) (plans.switches cases.now default (values.number_of state.moment.frame.regs value.now)) (state_seen state)) }
+    {
+        let number = self.number(&state, value)?;
+        self.switches_with(state, &number, cases, default)
+    }
+
     // What a node does that makes no test and takes no side.
     fn goes_on(&self, state: State<H>, node: &Node) -> Result<Answer<H>, AllocError>
         requires inputs { self.now.limits.inputs ≤ 64 }
@@ -401,6 +459,11 @@ impl<'a, H: Home, D: Decide> Machine<'a, H, D> {
                 next,
             } => self.operates(state, *op, a, b, *result, *next),
             Node::Branch { condition, yes, no } => self.branches(state, condition, *yes, *no),
+            Node::Switch {
+                value,
+                cases,
+                default,
+            } => self.switches(state, value, cases.as_slice(), *default),
             _ => self.goes_on(state, node),
         }
     }

@@ -92,6 +92,7 @@ fn is_explored(types: &[RegType], node: &Node) -> bool
         }
         Node::Moves { sets, .. } => are_moved(types, sets.as_slice()),
         Node::Branch { condition, .. } => is_number(types, condition),
+        Node::Switch { value, .. } => is_number(types, value),
         Node::Ret { value } => is_number_if(types, value),
         Node::Exit { status } => is_number(types, status),
         Node::Jump { .. } | Node::Abort | Node::Assert { .. } | Node::Unreachable => true,

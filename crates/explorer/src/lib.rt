@@ -8,6 +8,7 @@ mod laws;
 mod moments;
 mod sides;
 mod states;
+mod switches;
 mod values;
 
 pub use built::is_built;
