@@ -5,7 +5,7 @@ use Rattle.std.specs.declared.alloc.AllocError.{AllocError}
 use Rattle.flat_ir.specs.declared.program.ProgramData.{ProgramData}
 use Rattle.explorer.proofs.Right.{decided-leaves-right}
 use Rattle.chop_words.specs.declared.options.Options.{Options}
-use Rattle.chop_words.specs.Words.{Wanted, Explored, Printed, file_of, wanted, AreInRange}
+use Rattle.chop_words.specs.Words.{Wanted, Explored, Printed, Sited, file_of, wanted, AreInRange}
 use Rattle.chop_outside.specs.Reading.{Named, Holds, contents_of}
 use Rattle.chop_outside.specs.Writing.{SinkState}
 use Rattle.chop_top.specs.declared.top.Answer.{Answer}
@@ -46,6 +46,7 @@ not-refused-of (Explored o file) bytes written p reads built (inr unbuilt) =
     let same = one-program bytes p unbuilt.program reads unbuilt.reads in
     let both : true ≡ false = sym built ∙ (ap is_built same ∙ unbuilt.unbuilt) in cc
 not-refused-of (Printed file) bytes written p reads built unaccepted = not-unaccepted bytes written p reads unaccepted
+not-refused-of (Sited file) bytes written p reads built unaccepted = not-unaccepted bytes written p reads unaccepted
 
 -- an accepted file isn't refused
 not-refused : (r : Reading) (written : List ℕ) → IsAccepted r → OfFile (λ asked bytes. IsRefusalOf asked bytes written) r → ⊥

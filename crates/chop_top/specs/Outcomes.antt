@@ -6,7 +6,7 @@ use Rattle.flat_ir.specs.declared.program.ProgramData.{ProgramData}
 use Rattle.chop_outside.specs.Reading.{FilesState, ReadWhole, contents_of}
 use Rattle.chop_outside.specs.Writing.{SinkState, Appends, WrotePrefix}
 use Rattle.chop_words.specs.declared.options.Options.{Options}
-use Rattle.chop_words.specs.Words.{Wanted, Explored, Printed, file_of, wanted, usage_line}
+use Rattle.chop_words.specs.Words.{Wanted, Explored, Printed, Sited, file_of, wanted, usage_line}
 use Rattle.explorer.specs.declared.states.Limits.{Limits}
 use Rattle.explorer.specs.States.{Found}
 use Rattle.explorer.specs.Views.{setting_of, AreLeaves}
@@ -16,6 +16,7 @@ use Rattle.ir_tree.specs.declared.module.IrTree.{IrTree}
 use Rattle.ir_tree.specs.Printing.{printed}
 use Rattle.refusal_lines.specs.Refusals.{refused}
 use Rattle.report.specs.Report.{text}
+use Rattle.site_lines.specs.Sites.{IsSitesText}
 use Rattle.chop_top.specs.declared.top.Status.{Status}
 use Rattle.chop_top.specs.declared.top.Status.TheVariants.{Done, Usage, Refused, Memory, ReadFault, WriteFault}
 use Rattle.chop_top.specs.declared.top.Answer.{Answer}
@@ -56,10 +57,17 @@ pub record IsPrintOf (bytes written : List ℕ) : Type 0 where
   pub accepted : IsTextOf bytes tree program
   pub print : written ≡ printed tree
 
+-- a text has the lines of the sites and functions of the program that the bytes are the text of
+pub record IsSitesOf (bytes written : List ℕ) : Type 0 where
+  pub program : ProgramData
+  pub reads : Reads bytes program
+  pub lines : IsSitesText program written
+
 -- what is wanted of the bytes is done
 abbrev pub IsDoneOf : Wanted → List ℕ → List ℕ → Type 0
 IsDoneOf (Explored options file) bytes written = IsReportOf options bytes written
 IsDoneOf (Printed file) bytes written = IsPrintOf bytes written
+IsDoneOf (Sited file) bytes written = IsSitesOf bytes written
 
 -- the file that the words name was read to its end, and what is said of its bytes holds
 pub record OfFile (P : Wanted → List ℕ → Type 0) (r : Reading) : Type 0 where

@@ -16,7 +16,7 @@ use Rattle.ir_resolve.specs.Resolving as resolving
 use Rattle.explorer.specs.Built.{is_built}
 use Rattle.refusal_lines.specs.Refusals.{refused, misread_line, unresolved_line, unchecked_line}
 use Rattle.chop_words.specs.declared.options.Options.{Options}
-use Rattle.chop_words.specs.Words.{Wanted, Explored, Printed}
+use Rattle.chop_words.specs.Words.{Wanted, Explored, Printed, Sited}
 use Rattle.chop_top.specs.declared.accepting.Stop.{Stop}
 use Rattle.chop_top.specs.declared.accepting.Stop.TheVariants.{Line, Memory}
 use Rattle.chop_top.specs.Accepted.{Reads}
@@ -68,11 +68,13 @@ pub record IsNotBuilt (bytes written : List ℕ) : Type 0 where
 abbrev pub IsRefusalOf : Wanted → List ℕ → List ℕ → Type 0
 IsRefusalOf (Explored options file) bytes written = IsUnaccepted bytes written ⊎ IsNotBuilt bytes written
 IsRefusalOf (Printed file) bytes written = IsUnaccepted bytes written
+IsRefusalOf (Sited file) bytes written = IsUnaccepted bytes written
 
 -- the program can be handled as is wanted
 abbrev pub IsBuiltFor : Wanted → ProgramData → Type 0
 IsBuiltFor (Explored options file) p = is_built p ≡ true
 IsBuiltFor (Printed file) p = Unit {0}
+IsBuiltFor (Sited file) p = Unit {0}
 
 -- a line to stop with, or that memory ran out
 abbrev pub stop_of : Result (Vec ℕ Global) AllocError → Stop

@@ -1,6 +1,6 @@
 //! The top call.
 ghost use Rattle.std.specs.Prelude.{◌≡◌, ℕ, ◌<◌, ◌≤◌, ◌-◌, ◌^◌, None, List, map, length, string_bytes, IfOk};
-ghost use Rattle.chop_words.specs.Words.{AreInRange, IsInRange, Explored, Printed, wanted_by};
+ghost use Rattle.chop_words.specs.Words.{AreInRange, IsInRange, Explored, Printed, Sited, wanted_by};
 ghost use Rattle.chop_top.specs.Accepted.{Reads};
 ghost use Rattle.chop_top.specs.Outcomes.{Reading, Outcome, IsComplete, Answered, Judged, Text, limit, IsReport, IsLine, text_or_memory};
 
@@ -14,6 +14,7 @@ use ir_tree::printing::print;
 use places::{Home, Opened};
 use refusal_lines::refused_line;
 use report::report;
+use site_lines::sites_text;
 use std::alloc::{AllocError, Global};
 use std::marker::Brand;
 use std::sync::Wait;
@@ -137,6 +138,21 @@ fn printed(alloc: Global, bytes: &[u8]) -> Answer
     }
 }
 
+// The lines of the sites and functions of a file's program, or the line that says why there are none.
+fn sited(alloc: Global, bytes: &[u8]) -> Answer
+    requires { length bytes.now ≤ limit }
+    ensures { (file : List ℕ) → Judged result (Sited file) bytes.now }
+{
+    match accepted(alloc, bytes) {
+        Ok((_, program)) => text_or_memory(Status::Done, sites_text(alloc, &program)),
+        Err(Stop::Line(text)) => Answer::Text {
+            status: Status::Refused,
+            text,
+        },
+        Err(Stop::Memory) => Answer::Memory,
+    }
+}
+
 // What the bytes of a file come to.
 fn judged(alloc: Global, command: &Command, bytes: &[u8]) -> Answer
     requires short { length bytes.now ≤ limit }
@@ -146,6 +162,7 @@ fn judged(alloc: Global, command: &Command, bytes: &[u8]) -> Answer
     match command {
         Command::Explore { options, .. } => explored(alloc, bytes, *options),
         Command::Print { .. } => printed(alloc, bytes),
+        Command::Sites { .. } => sited(alloc, bytes),
     }
 }
 

@@ -2,6 +2,7 @@
 --
 --     explore [--input N] [--steps S] [--leaves B] [--shares A] FILE
 --     print FILE
+--     sites FILE
 --
 -- The options of a command stand in any order between its name and its file, each at most once, each number in the word after its name.
 use Rattle.std.specs.Prelude.{ℕ, ◌+◌, ◌*◌, ◌-◌, Bool, true, false, not, ◌&&◌, ◌==◌, nat_le, List, [], ◌∷◌, ◌++◌, length, Option, None, Some, if◌then◌else◌, codes, slice_get, string_bytes, ◌≡◌, ◌≤◌}
@@ -28,7 +29,8 @@ abbrev pub verb_named : List ℕ → Option Verb
 verb_named word =
     if bytes_eq word (codes "explore") then Some verb.Explore
     else (if bytes_eq word (codes "print") then Some verb.Print
-    else None)
+    else (if bytes_eq word (codes "sites") then Some verb.Sites
+    else None))
 
 -- the option that a word names
 abbrev pub named : List ℕ → Option Setting
@@ -43,6 +45,7 @@ named word =
 abbrev pub takes : Verb → Setting → Bool
 takes verb.Explore c = true
 takes verb.Print c = false
+takes verb.Sites c = false
 
 -- the least and the greatest number that an option may have
 abbrev pub low : Setting → ℕ
@@ -168,18 +171,21 @@ abbrev pub asked_of : Option Heard → Option (Verb × Options)
 asked_of None = None
 asked_of (Some s) = asked_at s.stage s.options
 
--- what is wanted: to explore the program of a file, or to print its module
+-- what is wanted: to explore the program of a file, to print its module, or to tell where its pointers point and what its functions change
 pub data Wanted : Type 0 where
   Explored : Options → List ℕ → Wanted
   Printed : List ℕ → Wanted
+  Sited : List ℕ → Wanted
 
 abbrev pub file_of : Wanted → List ℕ
 file_of (Explored options file) = file
 file_of (Printed file) = file
+file_of (Sited file) = file
 
 abbrev pub command_of : Verb → Options → List ℕ → Wanted
 command_of verb.Explore o file = Explored o file
 command_of verb.Print o file = Printed file
+command_of verb.Sites o file = Sited file
 
 abbrev pub both : Option (Verb × Options) → Option (List ℕ) → Option Wanted
 both (Some asked) (Some file) = Some (command_of asked.0 asked.1 file)
@@ -214,11 +220,13 @@ usage_line words = codes "usage " ++ word_or_end (slice_get words (misfit words)
 abbrev pub wanted_by : Command → Wanted
 wanted_by (command.Explore options file) = Explored options (string_bytes file)
 wanted_by (command.Print file) = Printed (string_bytes file)
+wanted_by (command.Sites file) = Sited (string_bytes file)
 
 -- the numbers of a command are within their ranges
 abbrev pub IsInRange : Wanted → Type 0
 IsInRange (Explored options file) = AreInRange options
 IsInRange (Printed file) = Unit {0}
+IsInRange (Sited file) = Unit {0}
 
 -- the words aren't in the table, and this is the place of the first that may not stand where it does
 abbrev pub Misses : UsageError → List (List ℕ) → Type 0

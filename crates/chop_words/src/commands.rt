@@ -8,11 +8,12 @@ use std::alloc::{AllocError, Global};
 use std::fmt;
 use thiserror::Error;
 
-/// A command: to explore the program of a file, or to print its module.
+/// A command: to explore the program of a file, to print its module, or to tell where its pointers point and what its functions change.
 #[derive(Drop)]
 pub enum Command {
     Explore { options: Options, file: String },
     Print { file: String },
+    Sites { file: String },
 }
 
 impl Command {
@@ -23,6 +24,7 @@ impl Command {
         match self {
             Command::Explore { file, .. } => file,
             Command::Print { file } => file,
+            Command::Sites { file } => file,
         }
     }
 }
@@ -51,11 +53,12 @@ fn command_of(verb: Verb, options: Options, file: String) -> Command
     match verb {
         Verb::Explore => Command::Explore { options, file },
         Verb::Print => Command::Print { file },
+        Verb::Sites => Command::Sites { file },
     }
 }
 
-/// The command of words: `explore [--input N] [--steps S] [--leaves B] [--shares A] FILE` or `print FILE`. Options stand in any
-/// order, each at most once. N is at most 64, S and B are 1 to 1,000,000, A is 1 to 100,000; where they aren't named they are 4,
+/// The command of words: `explore [--input N] [--steps S] [--leaves B] [--shares A] FILE`, `print FILE` or `sites FILE`. Options
+/// stand in any order, each at most once. N is at most 64, S and B are 1 to 1,000,000, A is 1 to 100,000; where they aren't named they are 4,
 /// 100,000, 10,000 and 1,024. A number has no sign and no 0 in front; a file isn't empty and doesn't begin with a dash.
 ///
 /// # Errors

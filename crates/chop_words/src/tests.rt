@@ -18,6 +18,7 @@ fn told(alloc: Global, words: &[&str]) -> Result<String, AllocError> {
             format!(in alloc; "{input} {steps} {leaves} {shares} {file}")
         }
         Ok(Command::Print { file }) => format!(in alloc; "print {file}"),
+        Ok(Command::Sites { file }) => format!(in alloc; "sites {file}"),
         Err(UsageError::Usage { index }) => usage_line(alloc, &given, index),
         Err(UsageError::Memory) => Err(AllocError),
     }
@@ -47,6 +48,7 @@ fn commands(rt: HostRuntime) -> Result<(), Fail> {
             "1 9 5 7 F",
         ),
         (["print", "print"].as_slice(), "print print"),
+        (["sites", "F"].as_slice(), "sites F"),
         (
             ["explore", "--leaves", "2", "x y"].as_slice(),
             "4 100000 2 1024 x y",

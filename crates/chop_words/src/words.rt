@@ -11,6 +11,7 @@ use ir_lexer::classes::is_number;
 pub enum Verb {
     Explore,
     Print,
+    Sites,
 }
 
 /// An option that has a number.
@@ -70,6 +71,7 @@ fn verb_named(word: &str) -> Option<Verb>
     match word {
         "explore" => Some(Verb::Explore),
         "print" => Some(Verb::Print),
+        "sites" => Some(Verb::Sites),
         _ => None,
     }
 }
@@ -81,7 +83,7 @@ fn takes(verb: Verb, setting: Setting) -> bool
         Verb::Explore => match setting {
             Setting::Input | Setting::Steps | Setting::Leaves | Setting::Shares => true,
         },
-        Verb::Print => false,
+        Verb::Print | Verb::Sites => false,
     }
 }
 
