@@ -1,0 +1,9 @@
+//! Tests of the top call over every layer below it: each refusal, and the lines of sites and switches.
+#![tactic(auto)]
+
+#[cfg(test)]
+mod refusals;
+#[cfg(test)]
+mod reports;
+#[cfg(test)]
+mod running;
