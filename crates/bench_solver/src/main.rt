@@ -144,7 +144,9 @@ fn main(rt: HostRuntime) -> io::Result<()> {
         words.next(),
         words.next(),
     ) else {
-        println!(rt; "usage: bench_solver clauses|search|dimacs equal|sum|less|mul|urem|table BYTES TIMES")?;
+        println!(rt;
+            "usage: bench_solver clauses|search|dimacs equal|sum|less|mul|urem|table BYTES TIMES"
+        )?;
         return Ok(());
     };
     let (Some(work), Some(kind), Ok(bytes), Ok(times)) = (
