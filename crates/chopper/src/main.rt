@@ -1,4 +1,4 @@
-//! The program `chopper`: explores a module over all inputs of some bytes, and prints what each state came to.
+//! The program `chopper`: explores a module over all inputs of some bytes, prints it anew, or tells where its pointers may point.
 #![tactic(auto)]
 
 use chop_outside::{FreeGate, HostFiles, HostSink};
@@ -8,15 +8,22 @@ use std::{env, io};
 
 const HELP: &str = "chopper explore [--input N] [--steps S] [--leaves B] [--shares A] FILE
     explores the module in FILE over all inputs of N bytes, and prints a line for each
-    state and one for their number
+    state and one for their number; the options stand in any order
 
     N  bytes of input, 0 to 64 (4)
     S  steps that a state may take, 1 to 1000000 (100000)
     B  conflicts that a decision may meet, 1 to 1000000 (10000)
     A  states that there may be, 1 to 100000 (1024)
 
-The exit status is 0 with a whole report, 2 where the words aren't these, 3 where FILE is
-refused, 4 where memory ran out, 5 where FILE couldn't be read, and 6 where the report
+chopper print FILE
+    prints the module anew, each thing with its name or number
+
+chopper sites FILE
+    prints for each global and each node that makes objects to whose objects their
+    pointers may point, and for each function what its calls may change
+
+The exit status is 0 with a whole text, 2 where the words aren't these, 3 where FILE is
+refused, 4 where memory ran out, 5 where FILE couldn't be read, and 6 where the text
 couldn't be written.
 ";
 
