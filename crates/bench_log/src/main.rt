@@ -30,18 +30,30 @@ fn seven<H: Home>(terms: &Terms<H>) -> Result<SymByte<H>, AllocError> {
 }
 
 /// A byte is written at this place.
-fn write_at<H: Home>(alloc: Global, at: Term<H>, byte: SymByte<H>) -> Result<Entry<H>, AllocError>
-    requires { width_of at ≡ 64 }
+fn write_at<H: Home>(
+    terms: &Terms<H>,
+    offset: Term<H>,
+    byte: SymByte<H>,
+) -> Result<Entry<H>, AllocError>
+    requires { width_of offset ≡ 64 }
 {
-    let bytes = Sequence::of_one(alloc, byte)?;
-    Ok(Entry::write(ObjectName::Global(0), at, bytes))
+    let bytes = Sequence::of_one(terms.alloc(), byte)?;
+    Ok(Entry::write(ObjectName::Global(0), offset, bytes))
 }
 
 /// A byte is written at this offset.
 fn write<H: Home>(terms: &Terms<H>, offset: u64) -> Result<Entry<H>, AllocError> {
-    let at = wide(terms, offset)?;
-    let byte = seven(terms)?;
-    write_at(terms.alloc(), at, byte)
+    let place = wide(terms, offset)?;
+    write_at(terms, place, seven(terms)?)
+}
+
+/// One more byte is written.
+fn write_once<H: Home>(
+    terms: &Terms<H>,
+    memory: &mut Memory<H, Plain>,
+    offset: u64,
+) -> Result<(), AllocError> {
+    Plain::append(memory, write(terms, offset)?)
 }
 
 /// A byte is written at each offset from 1 on.
@@ -51,18 +63,27 @@ fn write_often<H: Home>(
     times: u32,
 ) -> Result<(), AllocError> {
     for k in 0..times {
-        Plain::append(memory, write(terms, u64::from(k) + 1)?)?;
+        write_once(terms, memory, u64::from(k) + 1)?;
     }
     Ok(())
 }
 
 /// The byte at offset 0, which none of the writes covers.
-fn read_once<H: Home>(terms: &Terms<H>, memory: &Memory<H, Plain>) -> Result<(), AllocError> {
-    let name = ObjectName::Global(0);
+fn first_byte<H: Home>(
+    terms: &Terms<H>,
+    memory: &Memory<H, Plain>,
+    known: &Conditions<H>,
+) -> Result<(), AllocError> {
     let at = wide(terms, 0)?;
-    let known = Conditions::new(terms.alloc());
-    let _read = Plain::read(memory, terms, &name, &at, &known)?;
+    let name = ObjectName::Global(0);
+    let _read = Plain::read(memory, terms, &name, &at, known)?;
     Ok(())
+}
+
+/// The byte at offset 0, where nothing is known of the input.
+fn read_once<H: Home>(terms: &Terms<H>, memory: &Memory<H, Plain>) -> Result<(), AllocError> {
+    let known = Conditions::new(terms.alloc());
+    first_byte(terms, memory, &known)
 }
 
 fn read_often<H: Home>(
