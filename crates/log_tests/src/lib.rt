@@ -1,0 +1,7 @@
+//! Tests of symbolic values and memory: worked logs, forks, and bytes that are cut and joined.
+#![tactic(auto)]
+
+#[cfg(test)]
+mod of_bytes;
+#[cfg(test)]
+mod of_logs;
