@@ -1,21 +1,28 @@
 -- The words of the program:
 --
 --     explore [--input N] [--steps S] [--leaves B] [--shares A] FILE
+--     run --hex H --steps S FILE
 --     print FILE
 --     sites FILE
+--     slice FILE FUNCTION LOCATION
 --
--- The options of a command stand in any order between its name and its file, each at most once, each number in the word after its name.
-use Rattle.std.specs.Prelude.{ℕ, ◌+◌, ◌*◌, ◌-◌, Bool, true, false, not, ◌&&◌, ◌==◌, nat_le, List, [], ◌∷◌, ◌++◌, length, Option, None, Some, if◌then◌else◌, codes, slice_get, string_bytes, ◌≡◌, ◌≤◌}
+-- The options of a command stand in any order between its name and its file, each at most once, each value in the word after its name.
+use Rattle.std.specs.Prelude.{ℕ, ◌+◌, ◌*◌, ◌-◌, ◌%◌, Bool, true, false, not, ◌&&◌, ◌||◌, ◌==◌, nat_le, List, [], ◌∷◌, ◌++◌, length, Option, None, Some, if◌then◌else◌, codes, slice_get, string_bytes, ◌≡◌, ◌≤◌}
 use Rattle.std.specs.Str.{bytes_eq}
+use Rattle.std.specs.List.{list_all}
+use Rattle.std.specs.Result.{result_ok}
+use Rattle.hex.specs.Hex.{decode_of}
 use Rattle.ir_lexer.specs.Forms as forms
 use Rattle.chop_words.specs.declared.options.Options.{Options}
 use Rattle.chop_words.specs.declared.words.Verb.{Verb}
 use Rattle.chop_words.specs.declared.words.Verb.TheVariants as verb
 use Rattle.chop_words.specs.declared.words.Setting.{Setting}
 use Rattle.chop_words.specs.declared.words.Setting.TheVariants.{Input, Steps, Leaves, Shares}
+use Rattle.chop_words.specs.declared.words.Choice.{Choice}
+use Rattle.chop_words.specs.declared.words.Choice.TheVariants.{Bytes, Number}
 use Rattle.chop_words.specs.declared.words.Given.{Given}
 use Rattle.chop_words.specs.declared.words.Stage.{Stage}
-use Rattle.chop_words.specs.declared.words.Stage.TheVariants.{Start, Open, Number, End}
+use Rattle.chop_words.specs.declared.words.Stage.TheVariants.{Start, Open, Value, Function, Location, End}
 use Rattle.chop_words.specs.declared.words.Heard.{Heard}
 use Rattle.chop_words.specs.declared.commands.Command.{Command}
 use Rattle.chop_words.specs.declared.commands.Command.TheVariants as command
@@ -28,24 +35,32 @@ use Rattle.chop_words.specs.declared.commands.UsageError.TheVariants.{Usage, Mem
 abbrev pub verb_named : List ℕ → Option Verb
 verb_named word =
     if bytes_eq word (codes "explore") then Some verb.Explore
+    else (if bytes_eq word (codes "run") then Some verb.Run
     else (if bytes_eq word (codes "print") then Some verb.Print
     else (if bytes_eq word (codes "sites") then Some verb.Sites
-    else None))
+    else (if bytes_eq word (codes "slice") then Some verb.Slice
+    else None))))
 
 -- the option that a word names
-abbrev pub named : List ℕ → Option Setting
+abbrev pub named : List ℕ → Option Choice
 named word =
-    if bytes_eq word (codes "--input") then Some Input
-    else (if bytes_eq word (codes "--steps") then Some Steps
-    else (if bytes_eq word (codes "--leaves") then Some Leaves
-    else (if bytes_eq word (codes "--shares") then Some Shares
-    else None)))
+    if bytes_eq word (codes "--input") then Some (Number Input)
+    else (if bytes_eq word (codes "--steps") then Some (Number Steps)
+    else (if bytes_eq word (codes "--leaves") then Some (Number Leaves)
+    else (if bytes_eq word (codes "--shares") then Some (Number Shares)
+    else (if bytes_eq word (codes "--hex") then Some Bytes
+    else None))))
 
--- the options that a command has
-abbrev pub takes : Verb → Setting → Bool
-takes verb.Explore c = true
+-- the options that a command may have
+abbrev pub takes : Verb → Choice → Bool
+takes verb.Explore (Number c) = true
+takes verb.Explore Bytes = false
+takes verb.Run Bytes = true
+takes verb.Run (Number Steps) = true
+takes verb.Run (Number c) = false
 takes verb.Print c = false
 takes verb.Sites c = false
+takes verb.Slice c = false
 
 -- the least and the greatest number that an option may have
 abbrev pub low : Setting → ℕ
@@ -79,20 +94,27 @@ pub record AreInRange (o : Options) : Type 0 where
 
 -- ---- which options were named so far
 
-abbrev pub is_given : Setting → Given → Bool
-is_given Input g = g.input
-is_given Steps g = g.steps
-is_given Leaves g = g.leaves
-is_given Shares g = g.shares
+abbrev pub is_given : Choice → Given → Bool
+is_given (Number Input) g = g.input
+is_given (Number Steps) g = g.steps
+is_given (Number Leaves) g = g.leaves
+is_given (Number Shares) g = g.shares
+is_given Bytes g = g.bytes
 
-abbrev pub with_given : Setting → Given → Given
-with_given Input g = record g { input = true }
-with_given Steps g = record g { steps = true }
-with_given Leaves g = record g { leaves = true }
-with_given Shares g = record g { shares = true }
+abbrev pub with_given : Choice → Given → Given
+with_given (Number Input) g = record g { input = true }
+with_given (Number Steps) g = record g { steps = true }
+with_given (Number Leaves) g = record g { leaves = true }
+with_given (Number Shares) g = record g { shares = true }
+with_given Bytes g = record g { bytes = true }
 
 abbrev pub none_given : Given
-none_given = record { input = false; steps = false; leaves = false; shares = false }
+none_given = record { input = false; steps = false; leaves = false; shares = false; bytes = false }
+
+-- no option is missing that the command needs
+abbrev pub has_needed : Verb → Given → Bool
+has_needed verb.Run g = g.steps && g.bytes
+has_needed _ g = true
 
 -- ---- numbers
 
@@ -123,9 +145,23 @@ at_least least None = None
 abbrev pub number_in : Setting → List ℕ → Option ℕ
 number_in c word = if forms.is_number word && starts_plain word then at_least (low c) (within (high c) (Some 0) word) else None
 
+-- ---- bytes
+
+-- 0 to 9, or a to f
+abbrev pub is_lower_digit : ℕ → Bool
+is_lower_digit b = (nat_le 48 b && nat_le b 57) || (nat_le 97 b && nat_le b 102)
+
+-- a dash, or two lower-case hexadecimal digits for each of 1 to 64 bytes
+abbrev pub is_hex : List ℕ → Bool
+is_hex word = bytes_eq word (codes "-") || (nat_le 2 (length word) && (nat_le (length word) 128 && (length word % 2 == 0 && list_all is_lower_digit word)))
+
+-- the bytes that such a word says: a dash says none
+abbrev pub bytes_in : List ℕ → Option (List ℕ)
+bytes_in word = if bytes_eq word (codes "-") then Some [] else result_ok (decode_of word)
+
 -- ---- words
 
--- a word that stands for a file isn't empty and doesn't begin with a dash
+-- a word that stands for a file, a function or a location isn't empty and doesn't begin with a dash
 abbrev pub is_positional : List ℕ → Bool
 is_positional [] = false
 is_positional (b ∷ bs) = not (b == 45)
@@ -134,20 +170,34 @@ abbrev pub begun : Heard → Option Verb → Option Heard
 begun s (Some v) = Some (record s { stage = Open v })
 begun s None = None
 
--- an option of the command that wasn't named before, or the file
-abbrev pub chosen : Verb → Heard → Option Setting → Bool → Option Heard
-chosen v s (Some c) positional = if takes v c && not (is_given c s.given) then Some (record s { stage = Number v c }) else None
-chosen v s None positional = if positional then Some (record s { stage = End v }) else None
+-- what stands behind the file
+abbrev pub behind_file : Verb → Stage
+behind_file verb.Slice = Function
+behind_file v = End v
 
-abbrev pub set : Verb → Setting → Heard → Option ℕ → Option Heard
-set v c s (Some n) = Some (record { stage = Open v; given = with_given c s.given; options = with_number c n s.options })
-set v c s None = None
+-- an option of the command that wasn't named before, or the file, once no option is missing
+abbrev pub chosen : Verb → Heard → Option Choice → Bool → Option Heard
+chosen v s (Some c) positional = if takes v c && not (is_given c s.given) then Some (record s { stage = Value v c }) else None
+chosen v s None positional = if positional && has_needed v s.given then Some (record s { stage = behind_file v }) else None
+
+abbrev pub numbered : Verb → Setting → Heard → Option ℕ → Option Heard
+numbered v c s (Some n) = Some (record { stage = Open v; given = with_given (Number c) s.given; options = with_number c n s.options })
+numbered v c s None = None
+
+abbrev pub set : Verb → Choice → Heard → List ℕ → Option Heard
+set v (Number c) s word = numbered v c s (number_in c word)
+set v Bytes s word = if is_hex word then Some (record s { stage = Open v; given = with_given Bytes s.given }) else None
+
+abbrev pub placed : Heard → Stage → Bool → Option Heard
+placed s stage positional = if positional then Some (record s { stage = stage }) else None
 
 -- what was heard with a word more, if the word may stand there
 abbrev pub next : Stage → Heard → List ℕ → Option Heard
 next Start s word = begun s (verb_named word)
 next (Open v) s word = chosen v s (named word) (is_positional word)
-next (Number v c) s word = set v c s (number_in c word)
+next (Value v c) s word = set v c s word
+next Function s word = placed s Location (is_positional word)
+next Location s word = placed s (End verb.Slice) (is_positional word)
 next (End v) s word = None
 
 abbrev pub nothing_heard : Heard
@@ -171,29 +221,64 @@ abbrev pub asked_of : Option Heard → Option (Verb × Options)
 asked_of None = None
 asked_of (Some s) = asked_at s.stage s.options
 
--- what is wanted: to explore the program of a file, to print its module, or to tell where its pointers point and what its functions change
+-- ---- what is wanted
+
+-- To explore the program of a file; to run it on an input for so many steps; to print its module; to tell where its pointers point and what
+-- its functions change; or to tell what of it a location at the end of a function's call depends on.
 pub data Wanted : Type 0 where
   Explored : Options → List ℕ → Wanted
+  Ran : List ℕ → ℕ → List ℕ → Wanted
   Printed : List ℕ → Wanted
   Sited : List ℕ → Wanted
+  Sliced : List ℕ → List ℕ → List ℕ → Wanted
 
 abbrev pub file_of : Wanted → List ℕ
 file_of (Explored options file) = file
+file_of (Ran input steps file) = file
 file_of (Printed file) = file
 file_of (Sited file) = file
+file_of (Sliced file function location) = file
 
-abbrev pub command_of : Verb → Options → List ℕ → Wanted
-command_of verb.Explore o file = Explored o file
-command_of verb.Print o file = Printed file
-command_of verb.Sites o file = Sited file
+-- the word after the first that is this one
+abbrev pub word_after : List ℕ → List (List ℕ) → Option (List ℕ)
+word_after name [] = None
+word_after name (word ∷ words) = if bytes_eq word name then slice_get words 0 else word_after name words
 
-abbrev pub both : Option (Verb × Options) → Option (List ℕ) → Option Wanted
-both (Some asked) (Some file) = Some (command_of asked.0 asked.1 file)
-both _ _ = None
+abbrev pub last_word : List (List ℕ) → Option (List ℕ)
+last_word words = slice_get words (length words - 1)
 
--- the command with its options and the file, which is the last word, where the words are in the table
+abbrev pub of_file : (List ℕ → Wanted) → Option (List ℕ) → Option Wanted
+of_file asked (Some file) = Some (asked file)
+of_file asked None = None
+
+abbrev pub input_of : Option (List ℕ) → Option (List ℕ)
+input_of (Some word) = bytes_in word
+input_of None = None
+
+abbrev pub run_of : Option (List ℕ) → ℕ → Option (List ℕ) → Option Wanted
+run_of (Some input) steps file = of_file (Ran input steps) file
+run_of None steps file = None
+
+abbrev pub slice_of : Option (List ℕ) → Option (List ℕ) → Option (List ℕ) → Option Wanted
+slice_of (Some file) (Some function) (Some location) = Some (Sliced file function location)
+slice_of _ _ _ = None
+
+-- The command with its options and the words that are no options. Those of `slice` are the three behind its name; a file is the last word; the
+-- input is what the word after `--hex` says.
+abbrev pub command_of : Verb → Options → List (List ℕ) → Option Wanted
+command_of verb.Explore o words = of_file (Explored o) (last_word words)
+command_of verb.Run o words = run_of (input_of (word_after (codes "--hex") words)) o.steps (last_word words)
+command_of verb.Print o words = of_file Printed (last_word words)
+command_of verb.Sites o words = of_file Sited (last_word words)
+command_of verb.Slice o words = slice_of (slice_get words 1) (slice_get words 2) (slice_get words 3)
+
+abbrev pub asked_with : Option (Verb × Options) → List (List ℕ) → Option Wanted
+asked_with (Some asked) words = command_of asked.0 asked.1 words
+asked_with None words = None
+
+-- what is wanted, where the words are in the table
 abbrev pub wanted : List (List ℕ) → Option Wanted
-wanted words = both (asked_of (heard (Some nothing_heard) words)) (slice_get words (length words - 1))
+wanted words = asked_with (asked_of (heard (Some nothing_heard) words)) words
 
 abbrev pub counted : Option Heard → ℕ → ℕ
 counted None n = 0
@@ -219,14 +304,18 @@ usage_line words = codes "usage " ++ word_or_end (slice_get words (misfit words)
 -- the command as contracts see it
 abbrev pub wanted_by : Command → Wanted
 wanted_by (command.Explore options file) = Explored options (string_bytes file)
+wanted_by (command.Run input steps file) = Ran input.items steps (string_bytes file)
 wanted_by (command.Print file) = Printed (string_bytes file)
 wanted_by (command.Sites file) = Sited (string_bytes file)
+wanted_by (command.Slice file function location) = Sliced (string_bytes file) (string_bytes function) (string_bytes location)
 
 -- the numbers of a command are within their ranges
 abbrev pub IsInRange : Wanted → Type 0
 IsInRange (Explored options file) = AreInRange options
+IsInRange (Ran input steps file) = (1 ≤ steps) × (steps ≤ 1000000)
 IsInRange (Printed file) = Unit {0}
 IsInRange (Sited file) = Unit {0}
+IsInRange (Sliced file function location) = Unit {0}
 
 -- the words aren't in the table, and this is the place of the first that may not stand where it does
 abbrev pub Misses : UsageError → List (List ℕ) → Type 0

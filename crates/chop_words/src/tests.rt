@@ -19,6 +19,19 @@ fn told(alloc: Global, words: &[&str]) -> Result<String, AllocError> {
         }
         Ok(Command::Print { file }) => format!(in alloc; "print {file}"),
         Ok(Command::Sites { file }) => format!(in alloc; "sites {file}"),
+        Ok(Command::Run { input, steps, file }) => {
+            let bytes = input.len();
+            let first = input.first().copied().unwrap_or(0);
+            let last = input.last().copied().unwrap_or(0);
+            format!(in alloc; "run {bytes} {first} {last} {steps} {file}")
+        }
+        Ok(
+            Command::Slice {
+                file,
+                function,
+                location,
+            },
+        ) => format!(in alloc; "slice {file} {function} {location}"),
         Err(UsageError::Usage { index }) => usage_line(alloc, &given, index),
         Err(UsageError::Memory) => Err(AllocError),
     }
@@ -100,5 +113,90 @@ fn usages(rt: HostRuntime) -> Result<(), Fail> {
     ] {
         assert_eq!(rt; told(rt.alloc(), words)?.as_str(), text);
     }
+    Ok(())
+}
+
+const MOST: &str =
+    "000102030405060708090a0b0c0d0e0f101112131415161718191a1b1c1d1e1f202122232425262728292a2b2c2d2e2f303132333435363738393a3b3c3d3eff";
+
+const MORE: &str =
+    "000102030405060708090a0b0c0d0e0f101112131415161718191a1b1c1d1e1f202122232425262728292a2b2c2d2e2f303132333435363738393a3b3c3d3eff00";
+
+#[test]
+fn runs_and_slices(rt: HostRuntime) -> Result<(), Fail> {
+    for (words, text) in [
+        (
+            ["run", "--hex", "-", "--steps", "1", "F"].as_slice(),
+            "run 0 0 0 1 F",
+        ),
+        (
+            ["run", "--steps", "1000000", "--hex", "7a0f", "F"].as_slice(),
+            "run 2 122 15 1000000 F",
+        ),
+        (
+            ["run", "--hex", MOST, "--steps", "5", "F"].as_slice(),
+            "run 64 0 255 5 F",
+        ),
+        (
+            ["run", "--hex", "7A", "--steps", "5", "F"].as_slice(),
+            "usage 7A\n",
+        ),
+        (
+            ["run", "--hex", "7", "--steps", "5", "F"].as_slice(),
+            "usage 7\n",
+        ),
+        (["run", "--hex", "", "F"].as_slice(), "usage \n"),
+        (["run", "--hex", "0g", "F"].as_slice(), "usage 0g\n"),
+        (["run", "--hex", "--", "F"].as_slice(), "usage --\n"),
+        (["run", "--hex", "00", "F"].as_slice(), "usage F\n"),
+        (["run", "--steps", "5", "F"].as_slice(), "usage F\n"),
+        (["run", "F"].as_slice(), "usage F\n"),
+        (
+            ["run", "--hex", "00", "--hex", "00", "F"].as_slice(),
+            "usage --hex\n",
+        ),
+        (
+            ["run", "--input", "1", "--hex", "00", "F"].as_slice(),
+            "usage --input\n",
+        ),
+        (
+            ["run", "--hex", "00", "--steps", "0", "F"].as_slice(),
+            "usage 0\n",
+        ),
+        (
+            ["run", "--hex", "00", "--steps", "1000001", "F"].as_slice(),
+            "usage 1000001\n",
+        ),
+        (
+            ["run", "--hex", "00", "--steps", "05", "F"].as_slice(),
+            "usage 05\n",
+        ),
+        (
+            ["run", "--hex", "00", "--steps", "+5", "F"].as_slice(),
+            "usage +5\n",
+        ),
+        (
+            ["run", "--hex", "00", "--steps", "5", "F", "G"].as_slice(),
+            "usage G\n",
+        ),
+        (
+            ["run", "--hex", "00", "--steps", "5"].as_slice(),
+            "usage end\n",
+        ),
+        (["explore", "--hex", "00", "F"].as_slice(), "usage --hex\n"),
+        (
+            ["slice", "F", "f", "cells:@g"].as_slice(),
+            "slice F f cells:@g",
+        ),
+        (["slice", "F", "f"].as_slice(), "usage end\n"),
+        (["slice", "F", "-f", "input"].as_slice(), "usage -f\n"),
+        (["slice", "F", "f", ""].as_slice(), "usage \n"),
+        (["slice", "F", "f", "input", "G"].as_slice(), "usage G\n"),
+        (["slice", "--steps", "5", "F"].as_slice(), "usage --steps\n"),
+    ] {
+        assert_eq!(rt; told(rt.alloc(), words)?.as_str(), text);
+    }
+    let long = ["run", "--hex", MORE, "--steps", "5", "F"].as_slice();
+    assert_eq!(rt; told(rt.alloc(), long)?.as_str().len(), MORE.len() + 7);
     Ok(())
 }

@@ -1,5 +1,7 @@
 //! The words of the program, one after the other: what may stand next, and what was heard so far.
-ghost use Rattle.std.specs.Prelude.{◌≡◌, ◌≤◌, ◌<◌, ℕ, List, ◌∷◌, IfSome, map, string_bytes, Some};
+ghost use Rattle.std.specs.Prelude.{◌≡◌, ◌≤◌, ◌<◌, ℕ, List, ◌∷◌, IfSome, codes, map, option_map, string_bytes, Some};
+ghost use Rattle.std.specs.List.{list_all};
+ghost use Rattle.chop_words.specs.declared.words.Choice.TheVariants.{Bytes};
 ghost use Rattle.chop_words.specs.Words as spec;
 ghost use Rattle.chop_words.specs.Words.{AreInRange};
 
@@ -10,8 +12,10 @@ use ir_lexer::classes::is_number;
 #[derive(Clone, Copy, Debug, PartialEq, Eq)]
 pub enum Verb {
     Explore,
+    Run,
     Print,
     Sites,
+    Slice,
 }
 
 /// An option that has a number.
@@ -23,6 +27,13 @@ pub enum Setting {
     Shares,
 }
 
+/// An option: one that has a number, or the one that has bytes.
+#[derive(Clone, Copy, Debug, PartialEq, Eq)]
+pub enum Choice {
+    Number(Setting),
+    Bytes,
+}
+
 /// Which options were named.
 #[derive(Clone, Copy, Debug)]
 pub struct Given {
@@ -30,14 +41,17 @@ pub struct Given {
     pub steps: bool,
     pub leaves: bool,
     pub shares: bool,
+    pub bytes: bool,
 }
 
-/// What may stand next: the command, one of its options or its file, an option's number, or nothing.
+/// What may stand next: the command, one of its options or its file, an option's value, a function, a location, or nothing.
 #[derive(Clone, Copy, Debug)]
 pub enum Stage {
     Start,
     Open(Verb),
-    Number(Verb, Setting),
+    Value(Verb, Choice),
+    Function,
+    Location,
     End(Verb),
 }
 
@@ -56,6 +70,7 @@ const NOTHING: Heard = Heard {
         steps: false,
         leaves: false,
         shares: false,
+        bytes: false,
     },
     options: Options {
         input: 4,
@@ -70,54 +85,70 @@ fn verb_named(word: &str) -> Option<Verb>
 {
     match word {
         "explore" => Some(Verb::Explore),
+        "run" => Some(Verb::Run),
         "print" => Some(Verb::Print),
         "sites" => Some(Verb::Sites),
+        "slice" => Some(Verb::Slice),
         _ => None,
     }
 }
 
-fn takes(verb: Verb, setting: Setting) -> bool
-    ensures { result ≡ spec.takes verb setting }
+fn takes(verb: Verb, choice: Choice) -> bool
+    ensures { result ≡ spec.takes verb choice }
 {
-    match verb {
-        Verb::Explore => match setting {
-            Setting::Input | Setting::Steps | Setting::Leaves | Setting::Shares => true,
-        },
-        Verb::Print | Verb::Sites => false,
+    match (verb, choice) {
+        (Verb::Explore, Choice::Number(_)) => true,
+        (Verb::Run, Choice::Bytes | Choice::Number(Setting::Steps)) => true,
+        (Verb::Explore | Verb::Run | Verb::Print | Verb::Sites | Verb::Slice, _) => false,
     }
 }
 
-fn is_given(setting: Setting, given: Given) -> bool
-    ensures { result ≡ spec.is_given setting given }
+fn is_given(choice: Choice, given: Given) -> bool
+    ensures { result ≡ spec.is_given choice given }
 {
-    match setting {
-        Setting::Input => given.input,
-        Setting::Steps => given.steps,
-        Setting::Leaves => given.leaves,
-        Setting::Shares => given.shares,
+    match choice {
+        Choice::Number(Setting::Input) => given.input,
+        Choice::Number(Setting::Steps) => given.steps,
+        Choice::Number(Setting::Leaves) => given.leaves,
+        Choice::Number(Setting::Shares) => given.shares,
+        Choice::Bytes => given.bytes,
     }
 }
 
-fn with_given(setting: Setting, given: Given) -> Given
-    ensures { result ≡ spec.with_given setting given }
+fn with_given(choice: Choice, given: Given) -> Given
+    ensures { result ≡ spec.with_given choice given }
 {
-    match setting {
-        Setting::Input => Given {
+    match choice {
+        Choice::Number(Setting::Input) => Given {
             input: true,
             ..given
         },
-        Setting::Steps => Given {
+        Choice::Number(Setting::Steps) => Given {
             steps: true,
             ..given
         },
-        Setting::Leaves => Given {
+        Choice::Number(Setting::Leaves) => Given {
             leaves: true,
             ..given
         },
-        Setting::Shares => Given {
+        Choice::Number(Setting::Shares) => Given {
             shares: true,
             ..given
         },
+        Choice::Bytes => Given {
+            bytes: true,
+            ..given
+        },
+    }
+}
+
+// Whether no option is missing that the command needs.
+fn has_needed(verb: Verb, given: Given) -> bool
+    ensures { result ≡ spec.has_needed verb given }
+{
+    match verb {
+        Verb::Run => given.steps && given.bytes,
+        Verb::Explore | Verb::Print | Verb::Sites | Verb::Slice => true,
     }
 }
 
@@ -141,14 +172,15 @@ fn high(setting: Setting) -> u64
     }
 }
 
-fn named(word: &str) -> Option<Setting>
+fn named(word: &str) -> Option<Choice>
     ensures { result ≡ spec.named word.now }
 {
     match word {
-        "--input" => Some(Setting::Input),
-        "--steps" => Some(Setting::Steps),
-        "--leaves" => Some(Setting::Leaves),
-        "--shares" => Some(Setting::Shares),
+        "--input" => Some(Choice::Number(Setting::Input)),
+        "--steps" => Some(Choice::Number(Setting::Steps)),
+        "--leaves" => Some(Choice::Number(Setting::Leaves)),
+        "--shares" => Some(Choice::Number(Setting::Shares)),
+        "--hex" => Some(Choice::Bytes),
         _ => None,
     }
 }
@@ -248,6 +280,29 @@ fn number_in(setting: Setting, word: &str) -> Option<u64>
     }
 }
 
+fn is_lower_digit(byte: u8) -> bool
+    ensures { result ≡ spec.is_lower_digit byte }
+{
+    (48 <= byte && byte <= 57) || (97 <= byte && byte <= 102)
+}
+
+fn are_lower_digits(word: &[u8]) -> bool
+    ensures { result ≡ list_all spec.is_lower_digit word.now }
+{
+    word.iter().all(|byte| is_lower_digit(*byte))
+}
+
+fn is_hex(word: &str) -> bool
+    ensures { result ≡ spec.is_hex word.now }
+{
+    let digits = word.as_bytes();
+    word == "-"
+        || (2 <= digits.len()
+            && digits.len() <= 128
+            && digits.len() % 2 == 0
+            && are_lower_digits(digits))
+}
+
 fn is_positional(word: &str) -> bool
     ensures { result ≡ spec.is_positional word.now }
 {
@@ -274,41 +329,87 @@ fn begun(heard: Heard, verb: Option<Verb>) -> Option<Heard>
     }
 }
 
-fn chosen(verb: Verb, heard: Heard, named: Option<Setting>, positional: bool) -> Option<Heard>
+fn placed(heard: Heard, stage: Stage, positional: bool) -> Option<Heard>
+    requires { AreInRange heard.options }
+    ensures value { result ≡ spec.placed heard stage positional }
+    ensures range { IfSome result (λ h. AreInRange h.options) }
+{
+    if positional {
+        Some(at_stage(stage, heard))
+    } else {
+        None
+    }
+}
+
+fn behind_file(verb: Verb) -> Stage
+    ensures { result ≡ spec.behind_file verb }
+{
+    match verb {
+        Verb::Slice => Stage::Function,
+        Verb::Explore | Verb::Run | Verb::Print | Verb::Sites => Stage::End(verb),
+    }
+}
+
+fn chosen(verb: Verb, heard: Heard, named: Option<Choice>, positional: bool) -> Option<Heard>
     requires { AreInRange heard.options }
     ensures value { result ≡ spec.chosen verb heard named positional }
     ensures range { IfSome result (λ h. AreInRange h.options) }
 {
     match named {
-        Some(setting) => {
-            if takes(verb, setting) && !is_given(setting, heard.given) {
-                Some(at_stage(Stage::Number(verb, setting), heard))
+        Some(choice) => {
+            if takes(verb, choice) && !is_given(choice, heard.given) {
+                Some(at_stage(Stage::Value(verb, choice), heard))
             } else {
                 None
             }
         }
-        None => {
-            if positional {
-                Some(at_stage(Stage::End(verb), heard))
-            } else {
-                None
-            }
-        }
+        None => placed(
+            heard,
+            behind_file(verb),
+            positional && has_needed(verb, heard.given),
+        ),
     }
 }
 
-fn set(verb: Verb, setting: Setting, heard: Heard, word: &str) -> Option<Heard>
+fn numbered(verb: Verb, setting: Setting, heard: Heard, word: &str) -> Option<Heard>
     requires { AreInRange heard.options }
-    ensures value { result ≡ spec.set verb setting heard (spec.number_in setting word.now) }
+    ensures value { result ≡ spec.numbered verb setting heard (spec.number_in setting word.now) }
     ensures range { IfSome result (λ h. AreInRange h.options) }
 {
     match number_in(setting, word) {
         Some(number) => Some(Heard {
             stage: Stage::Open(verb),
-            given: with_given(setting, heard.given),
+            given: with_given(Choice::Number(setting), heard.given),
             options: with_number(setting, number, heard.options),
         }),
         None => None,
+    }
+}
+
+fn with_bytes(verb: Verb, heard: Heard, word: &str) -> Option<Heard>
+    requires { AreInRange heard.options }
+    ensures value { result ≡ spec.set verb Bytes heard word.now }
+    ensures range { IfSome result (λ h. AreInRange h.options) }
+{
+    if is_hex(word) {
+        Some(Heard {
+            stage: Stage::Open(verb),
+            given: with_given(Choice::Bytes, heard.given),
+            ..heard
+        })
+    } else {
+        None
+    }
+}
+
+fn set(verb: Verb, choice: Choice, heard: Heard, word: &str) -> Option<Heard>
+    requires { AreInRange heard.options }
+    ensures value { result ≡ spec.set verb choice heard word.now }
+    ensures range { IfSome result (λ h. AreInRange h.options) }
+{
+    match choice {
+        Choice::Number(setting) => numbered(verb, setting, heard, word),
+        Choice::Bytes => with_bytes(verb, heard, word),
     }
 }
 
@@ -321,7 +422,9 @@ fn next(heard: Heard, word: &str) -> Option<Heard>
     match heard.stage {
         Stage::Start => begun(heard, verb_named(word)),
         Stage::Open(verb) => chosen(verb, heard, named(word), is_positional(word)),
-        Stage::Number(verb, setting) => set(verb, setting, heard, word),
+        Stage::Value(verb, choice) => set(verb, choice, heard, word),
+        Stage::Function => placed(heard, Stage::Location, is_positional(word)),
+        Stage::Location => placed(heard, Stage::End(Verb::Slice), is_positional(word)),
         Stage::End(_) => None,
     }
 }
@@ -378,4 +481,18 @@ pub fn asked_of(words: &[String]) -> Option<(Verb, Options)>
         ) => Some((verb, options)),
         _ => None,
     }
+}
+
+/// The word after `--hex`.
+pub fn hex_word(words: &[String]) -> Option<&String>
+    ensures { option_map (λ word. string_bytes word.now) result ≡ spec.word_after (codes "--hex") (map string_bytes words.now) }
+{
+    let mut rest = words;
+    'words: while let Some((word, more)) = rest.split_first() {
+        if word.as_str() == "--hex" {
+            return more.first();
+        }
+        rest = more;
+    }
+    None
 }
