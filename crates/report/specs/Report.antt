@@ -1,5 +1,5 @@
 -- The text of a report.
-use Rattle.std.specs.Prelude.{ℕ, ◌+◌, ◌-◌, ◌/◌, ◌%◌, nat_lt, Bool, List, [], ◌∷◌, ◌++◌, length, count_by, codes, true, false, Option, Some, None, if◌then◌else◌}
+use Rattle.std.specs.Prelude.{ℕ, ◌+◌, ◌-◌, Bool, List, [], ◌∷◌, ◌++◌, length, count_by, codes, true, false, Option, Some, None}
 use Rattle.std.specs.Fmt.{decimal}
 use Rattle.chop_words.specs.declared.options.Options.{Options}
 use Rattle.name_texts.specs.Lines.{line, function_text}
@@ -7,7 +7,7 @@ use Rattle.flat_ir.specs.declared.names.FuncId.{FuncId}
 use Rattle.flat_ir.specs.declared.names.NodeId.{NodeId}
 use Rattle.flat_ir.specs.declared.program.ProgramData.{ProgramData}
 use Rattle.flat_ir.specs.declared.values.FaultKind.{FaultKind}
-use Rattle.flat_ir.specs.declared.values.FaultKind.TheVariants as fault
+use Rattle.value_texts.specs.Values.{bytes_text, fault_text}
 use Rattle.terms.specs.Tree.{Tree}
 use Rattle.terms.specs.Value.{value_of, ReadsBelow}
 use Rattle.explorer.specs.declared.states.Cause.{Cause}
@@ -21,19 +21,6 @@ options_line o =
 
 -- ---- parts of a leaf's line
 
--- a hexadecimal digit, with lower-case letters
-abbrev pub hex_digit : ℕ → ℕ
-hex_digit n = if nat_lt n 10 then 48 + n else 87 + n
-
-abbrev pub hex : List ℕ → List ℕ
-hex [] = []
-hex (b ∷ bs) = hex_digit (b / 16) ∷ hex_digit (b % 16) ∷ hex bs
-
--- no bytes are a dash
-abbrev pub bytes_text : List ℕ → List ℕ
-bytes_text [] = codes "-"
-bytes_text (b ∷ bs) = hex (b ∷ bs)
-
 -- an input, or that none is known
 abbrev pub input_text : Option (List ℕ) → List ℕ
 input_text None = codes "?"
@@ -43,19 +30,6 @@ input_text (Some bytes) = bytes_text bytes
 abbrev pub status_text : Option (List ℕ) → Tree → List ℕ
 status_text None status = codes "?"
 status_text (Some input) status = decimal (value_of status input).bits
-
-abbrev pub fault_text : FaultKind → List ℕ
-fault_text fault.DivideByZero = codes "divide-by-zero"
-fault_text fault.DivideOverflow = codes "divide-overflow"
-fault_text fault.NullAccess = codes "null-access"
-fault_text fault.UseAfterFree = codes "use-after-free"
-fault_text fault.OutOfBounds = codes "out-of-bounds"
-fault_text fault.MixedBytes = codes "mixed-bytes"
-fault_text fault.BadFree = codes "bad-free"
-fault_text fault.Unreachable = codes "unreachable"
-fault_text fault.Assert = codes "assert"
-fault_text fault.Abort = codes "abort"
-fault_text fault.NoReturn = codes "no-return"
 
 abbrev pub cause_text : Cause → List ℕ
 cause_text cause.Steps = codes "steps"

@@ -6,7 +6,7 @@ ghost use Rattle.explorer.specs.Views.{leaf_seen, ending_seen};
 ghost use Rattle.report.specs.Report as spec;
 ghost use Rattle.report.specs.Report.{IsRead, IsShown};
 
-use crate::texts::{cause_text, fault_text, put_input, status_text};
+use crate::texts::{cause_text, put_input, status_text};
 use chop_words::Options;
 use explorer::{Cause, Ending, Leaf};
 use flat_ir::{FaultKind, FuncId, NodeId, Program};
@@ -15,12 +15,7 @@ use places::Home;
 use plain_list::Sequence;
 use std::alloc::{AllocError, Global};
 use terms::Term;
-
-fn put_str(text: &mut Vec<u8>, piece: &str) -> Result<(), AllocError>
-    ensures { OnOk result (text.new.items ≡ text.old.items ++ piece.now) }
-{
-    text.extend_from_slice(piece.as_bytes())
-}
+use value_texts::{fault_text, put_text};
 
 // An input between two pieces.
 fn put_around(
@@ -31,9 +26,9 @@ fn put_around(
 ) -> Result<(), AllocError>
     ensures { OnOk result (text.new.items ≡ text.old.items ++ (start.now ++ (spec.input_text input.now ++ end.now))) }
 {
-    put_str(text, start)?;
+    put_text(text, start)?;
     put_input(text, input)?;
-    put_str(text, end)
+    put_text(text, end)
 }
 
 fn options_line(alloc: Global, options: &Options) -> Result<String, AllocError>
@@ -100,7 +95,7 @@ fn put_fault(
 {
     let name = fault_text(place.kind);
     let start = format!(in alloc; "{number} fault {name} at=")?;
-    put_str(text, start.as_str())?;
+    put_text(text, start.as_str())?;
     put_function(text, program, place.func)?;
     put_fault_end(alloc, text, place.node, input, steps)
 }
@@ -237,9 +232,9 @@ pub fn report<H: Home>(
 {
     let mut text = Vec::new(alloc);
     let options_line = options_line(alloc, options)?;
-    put_str(&mut text, options_line.as_str())?;
+    put_text(&mut text, options_line.as_str())?;
     put_leaves(alloc, &mut text, program, options, leaves)?;
     let total = total_line(alloc, leaves)?;
-    put_str(&mut text, total.as_str())?;
+    put_text(&mut text, total.as_str())?;
     Ok(text)
 }

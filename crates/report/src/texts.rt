@@ -1,31 +1,14 @@
 //! Parts of a line.
-ghost use Rattle.std.specs.Prelude.{◌≡◌, ◌<◌, ◌++◌, length, IfOk, IfSome, OnOk, string_bytes};
+ghost use Rattle.std.specs.Prelude.{◌≡◌, ◌++◌, length, IfOk, IfSome, OnOk, string_bytes};
 ghost use Rattle.terms.specs.Value.{ReadsBelow};
 ghost use Rattle.report.specs.Report as spec;
 
 use explorer::Cause;
-use flat_ir::FaultKind;
 use places::Home;
 use plain_list::Sequence;
 use std::alloc::{AllocError, Global};
 use terms::{Term, value_once};
-
-fn lower_digit(digit: u8) -> u8
-    requires { digit < 16 }
-    ensures { result ≡ spec.hex_digit digit }
-{
-    if digit < 10 { 48 + digit } else { 87 + digit }
-}
-
-// Bytes as hexadecimal digits.
-fn put_hex(text: &mut Vec<u8>, bytes: &[u8]) -> Result<(), AllocError>
-    ensures { OnOk result (text.new.items ≡ text.old.items ++ spec.hex bytes.now) }
-{
-    'digits: for byte in bytes {
-        text.extend_from_slice(&[lower_digit(*byte / 16), lower_digit(*byte % 16)])?;
-    }
-    Ok(())
-}
+use value_texts::put_bytes;
 
 /// An input: its bytes, a dash where it has none, or that none is known.
 pub fn put_input(text: &mut Vec<u8>, input: &Option<Sequence<u8>>) -> Result<(), AllocError>
@@ -34,29 +17,7 @@ pub fn put_input(text: &mut Vec<u8>, input: &Option<Sequence<u8>>) -> Result<(),
     let Some(bytes) = input else {
         return text.extend_from_slice(b"?");
     };
-    match bytes.as_slice() {
-        [] => text.extend_from_slice(b"-"),
-        bytes => put_hex(text, bytes),
-    }
-}
-
-/// A fault's name.
-pub fn fault_text(kind: FaultKind) -> &'static str
-    ensures { result.now ≡ spec.fault_text kind }
-{
-    match kind {
-        FaultKind::DivideByZero => "divide-by-zero",
-        FaultKind::DivideOverflow => "divide-overflow",
-        FaultKind::NullAccess => "null-access",
-        FaultKind::UseAfterFree => "use-after-free",
-        FaultKind::OutOfBounds => "out-of-bounds",
-        FaultKind::MixedBytes => "mixed-bytes",
-        FaultKind::BadFree => "bad-free",
-        FaultKind::Unreachable => "unreachable",
-        FaultKind::Assert => "assert",
-        FaultKind::Abort => "abort",
-        FaultKind::NoReturn => "no-return",
-    }
+    put_bytes(text, bytes.as_slice())
 }
 
 /// Why a leaf is open.
