@@ -8,6 +8,7 @@ mod summing;
 #[cfg(test)]
 mod tests;
 
-pub use closing::{close, closed_sets_meet_one, closing_closes};
+pub use closing::{close, closed_sets_meet_one, closing_closes, closing_round};
 pub use graph::Graph;
 pub use meeting::first_met;
+pub use summing::{Met, all_met};

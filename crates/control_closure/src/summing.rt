@@ -172,7 +172,7 @@ fn count_all(
     Ok(())
 }
 
-/// The summary of each node.
+/// The summary of each node. It costs, for each retained node, walks back over the edges. It fails for want of memory alone.
 pub fn all_met(alloc: Global, graph: &Graph, retained: &[bool]) -> Result<Vec<Met>, AllocError>
     requires graph { IsGraph graph.now.succ }
     requires size { length retained.now ≡ length graph.now.succ }

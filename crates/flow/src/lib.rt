@@ -10,4 +10,6 @@ mod undefined;
 mod unset;
 
 pub use finding::{first_undefined, functions_are_named};
+pub use operands::registers_read;
+pub use tables::{results, row};
 pub use undefined::Undefined;

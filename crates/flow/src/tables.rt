@@ -27,7 +27,7 @@ fn switch_row(
 }
 
 /// The numbers of the nodes that a node leads to.
-fn row(alloc: Global, node: &Node) -> Result<Sequence<u32>, AllocError>
+pub fn row(alloc: Global, node: &Node) -> Result<Sequence<u32>, AllocError>
     ensures { IfOk result (λ row. row ≡ row_of node.now) }
 {
     match node {
@@ -90,7 +90,7 @@ fn moved(alloc: Global, sets: &[MoveSet]) -> Result<Sequence<RegId>, AllocError>
 }
 
 /// The registers that a node sets.
-fn results(alloc: Global, node: &Node) -> Result<Sequence<RegId>, AllocError>
+pub fn results(alloc: Global, node: &Node) -> Result<Sequence<RegId>, AllocError>
     ensures { IfOk result (λ registers. registers ≡ results_of node.now) }
 {
     match node {

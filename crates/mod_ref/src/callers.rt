@@ -19,7 +19,7 @@ struct Callers<'a> {
 }
 
 /// The function that a node calls.
-fn callee(node: &Node) -> Option<FuncId>
+pub fn callee(node: &Node) -> Option<FuncId>
     ensures { result ≡ callee_of node.now }
 {
     match node {

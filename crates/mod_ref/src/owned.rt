@@ -15,7 +15,7 @@ use points_to::PointsTo;
 use std::alloc::{AllocError, Global};
 
 /// What a node changes whatever its operands are.
-fn changed_by(func: FuncId, at: NodeId, node: &Node) -> Option<Location>
+pub fn changed_by(func: FuncId, at: NodeId, node: &Node) -> Option<Location>
     ensures { result ≡ spec.changed_by func at node.now }
 {
     match node {
@@ -27,7 +27,7 @@ fn changed_by(func: FuncId, at: NodeId, node: &Node) -> Option<Location>
 }
 
 /// The pointer that a node writes through.
-fn written_through(node: &Node) -> Option<Operand>
+pub fn written_through(node: &Node) -> Option<Operand>
     ensures { result ≡ spec.written_through node.now }
 {
     match node {
@@ -38,7 +38,7 @@ fn written_through(node: &Node) -> Option<Operand>
 }
 
 /// The pointer that a node frees.
-fn freed_by(node: &Node) -> Option<Operand>
+pub fn freed_by(node: &Node) -> Option<Operand>
     ensures { result ≡ spec.freed_by node.now }
 {
     match node {
@@ -114,7 +114,7 @@ fn writes(
 }
 
 /// The nodes of a function, none where there is no such function.
-fn nodes_of(program: &ProgramData, from: FuncId) -> &[Node]
+pub fn nodes_of(program: &ProgramData, from: FuncId) -> &[Node]
     ensures { result.now ≡ machine.nodes_of (machine.func_at program.now from) }
 {
     match program.funcs.get(from.0 as usize) {
@@ -133,7 +133,7 @@ fn is_malloc(node: &Node) -> bool
 }
 
 /// Whether the objects of a site may be freed.
-fn is_malloc_site(program: &ProgramData, site: Site) -> bool
+pub fn is_malloc_site(program: &ProgramData, site: Site) -> bool
     ensures { result ≡ spec.is_malloc_site program.now site }
 {
     match site {

@@ -1,0 +1,6 @@
+//! The slice of a function for a location: the nodes that decide what a call of the function does there, and where a run of them goes on.
+#![tactic(auto)]
+
+mod slicing;
+
+pub use slicing::slice;

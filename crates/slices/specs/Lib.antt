@@ -1,0 +1,4 @@
+pub mod Nodes
+pub mod Slice
+pub mod Nexts
+pub mod SliceFacts
