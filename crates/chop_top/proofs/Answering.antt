@@ -3,9 +3,11 @@ use Rattle.std.proofs.Common.{◌≡◌, ℕ, ◌<◌, ◌≤◌, List, [], ◌�
 use Rattle.std.specs.declared.alloc.Global.{Global}
 use Rattle.std.specs.declared.alloc.AllocError.{AllocError}
 use Rattle.flat_ir.specs.declared.program.ProgramData.{ProgramData}
+use Rattle.flat_ir.specs.declared.names.FuncId.{FuncId}
+use Rattle.slice_lines.specs.Targets.{function_named, location_named}
 use Rattle.explorer.proofs.Right.{decided-leaves-right}
 use Rattle.chop_words.specs.declared.options.Options.{Options}
-use Rattle.chop_words.specs.Words.{Wanted, Explored, Printed, Sited, file_of, wanted, AreInRange}
+use Rattle.chop_words.specs.Words.{Wanted, Explored, Ran, Printed, Sited, Sliced, file_of, wanted, AreInRange}
 use Rattle.chop_outside.specs.Reading.{Named, Holds, contents_of}
 use Rattle.chop_outside.specs.Writing.{SinkState}
 use Rattle.chop_top.specs.declared.top.Answer.{Answer}
@@ -13,7 +15,7 @@ use Rattle.chop_top.specs.declared.top.Status.{Status}
 use Rattle.chop_top.specs.declared.top.Status.TheVariants.{Done, Usage, Refused, Memory, ReadFault, WriteFault}
 use Rattle.explorer.specs.Built.{is_built}
 use Rattle.chop_top.specs.Accepted.{Reads}
-use Rattle.chop_top.specs.Refusals.{IsRefusalOf, IsBuiltFor}
+use Rattle.chop_top.specs.Refusals.{IsRefusalOf, IsBuiltFor, IsKnown, IsUnknown, no_function, no_location}
 use Rattle.chop_top.proofs.OneText.{one-program, not-unaccepted}
 use Rattle.chop_top.specs.Outcomes.{limit, limits_of, Reading, IsReport, IsTooLarge, OfFile, IsAccepted, IsComplete, Outcome, Judged, text_or_memory}
 
@@ -39,14 +41,27 @@ told-holds (Some f) name read bytes holds told =
 same-asked : (words : List (List ℕ)) (a b : Wanted) → wanted words ≡ Some a → wanted words ≡ Some b → a ≡ b
 same-asked words a b p q = let same : Some a ≡ Some b = sym p ∙ q in cc
 
+-- words that name a function and a location are none that name nothing
+not-unknown : (p : ProgramData) (function location word : List ℕ) → IsKnown p function location → IsUnknown p function location word → ⊥
+not-unknown p function location word known (no_function none is) = let both : None ≡ Some known.func = sym none ∙ known.named in cc
+not-unknown p function location word known (no_location f named none is) =
+    let funcs : Some f ≡ Some known.func = sym named ∙ known.named in
+    let same : f ≡ known.func = cc in
+    let both : None ≡ Some known.at' = sym none ∙ (ap (λ (g : FuncId). location_named p g location) same ∙ known.place) in cc
+
 -- what is accepted, for what is wanted of it, isn't refused
 not-refused-of : (asked : Wanted) (bytes written : List ℕ) (p : ProgramData) → Reads bytes p → IsBuiltFor asked p → IsRefusalOf asked bytes written → ⊥
 not-refused-of (Explored o file) bytes written p reads built (inl unaccepted) = not-unaccepted bytes written p reads unaccepted
 not-refused-of (Explored o file) bytes written p reads built (inr unbuilt) =
     let same = one-program bytes p unbuilt.program reads unbuilt.reads in
     let both : true ≡ false = sym built ∙ (ap is_built same ∙ unbuilt.unbuilt) in cc
+not-refused-of (Ran input steps file) bytes written p reads built unaccepted = not-unaccepted bytes written p reads unaccepted
 not-refused-of (Printed file) bytes written p reads built unaccepted = not-unaccepted bytes written p reads unaccepted
 not-refused-of (Sited file) bytes written p reads built unaccepted = not-unaccepted bytes written p reads unaccepted
+not-refused-of (Sliced file function location) bytes written p reads built (inl unaccepted) = not-unaccepted bytes written p reads unaccepted
+not-refused-of (Sliced file function location) bytes written p reads built (inr target) =
+    let same = one-program bytes p target.program reads target.reads in
+    not-unknown target.program function location target.word (subst (λ (q : ProgramData). IsKnown q function location) same built) target.unknown
 
 -- an accepted file isn't refused
 not-refused : (r : Reading) (written : List ℕ) → IsAccepted r → OfFile (λ asked bytes. IsRefusalOf asked bytes written) r → ⊥

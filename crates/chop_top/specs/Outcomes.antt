@@ -6,7 +6,7 @@ use Rattle.flat_ir.specs.declared.program.ProgramData.{ProgramData}
 use Rattle.chop_outside.specs.Reading.{FilesState, ReadWhole, contents_of}
 use Rattle.chop_outside.specs.Writing.{SinkState, Appends, WrotePrefix}
 use Rattle.chop_words.specs.declared.options.Options.{Options}
-use Rattle.chop_words.specs.Words.{Wanted, Explored, Printed, Sited, file_of, wanted, usage_line}
+use Rattle.chop_words.specs.Words.{Wanted, Explored, Ran, Printed, Sited, Sliced, file_of, wanted, usage_line}
 use Rattle.explorer.specs.declared.states.Limits.{Limits}
 use Rattle.explorer.specs.States.{Found}
 use Rattle.explorer.specs.Views.{setting_of, AreLeaves}
@@ -16,13 +16,15 @@ use Rattle.ir_tree.specs.declared.module.IrTree.{IrTree}
 use Rattle.ir_tree.specs.Printing.{printed}
 use Rattle.refusal_lines.specs.Refusals.{refused}
 use Rattle.report.specs.Report.{text}
+use Rattle.run_lines.specs.Runs.{IsRunText}
 use Rattle.site_lines.specs.Sites.{IsSitesText}
+use Rattle.slice_lines.specs.Slices.{IsSliceText}
 use Rattle.chop_top.specs.declared.top.Status.{Status}
 use Rattle.chop_top.specs.declared.top.Status.TheVariants.{Done, Usage, Refused, Memory, ReadFault, WriteFault}
 use Rattle.chop_top.specs.declared.top.Answer.{Answer}
 use Rattle.chop_top.specs.declared.top.Answer.TheVariants as answer
 use Rattle.chop_top.specs.Accepted.{IsTextOf, Reads}
-use Rattle.chop_top.specs.Refusals.{IsRefusalOf, IsBuiltFor}
+use Rattle.chop_top.specs.Refusals.{IsRefusalOf, IsBuiltFor, IsKnown}
 
 -- the most bytes that are read
 abbrev pub limit : ℕ
@@ -50,6 +52,12 @@ pub record IsReportOf (options : Options) (bytes written : List ℕ) : Type 0 wh
   pub right : AreRight (setting_of program (limits_of options)) leaves
   pub report : written ≡ text program options leaves
 
+-- a text is the line of the run on an input of the program that the bytes are the text of, for no more than so many steps
+pub record IsRunOf (input : List ℕ) (steps : ℕ) (bytes written : List ℕ) : Type 0 where
+  pub program : ProgramData
+  pub reads : Reads bytes program
+  pub line : IsRunText program input steps written
+
 -- a text is that of the tree of bytes that are accepted, printed anew
 pub record IsPrintOf (bytes written : List ℕ) : Type 0 where
   pub tree : IrTree
@@ -63,11 +71,21 @@ pub record IsSitesOf (bytes written : List ℕ) : Type 0 where
   pub reads : Reads bytes program
   pub lines : IsSitesText program written
 
+-- a text has the lines of the slice, for the location that a word names, of the function that a word names, of the program that the bytes are
+-- the text of
+pub record IsSliceOf (function location bytes written : List ℕ) : Type 0 where
+  pub program : ProgramData
+  pub reads : Reads bytes program
+  pub known : IsKnown program function location
+  pub lines : IsSliceText program known.func known.at' written
+
 -- what is wanted of the bytes is done
 abbrev pub IsDoneOf : Wanted → List ℕ → List ℕ → Type 0
 IsDoneOf (Explored options file) bytes written = IsReportOf options bytes written
+IsDoneOf (Ran input steps file) bytes written = IsRunOf input steps bytes written
 IsDoneOf (Printed file) bytes written = IsPrintOf bytes written
 IsDoneOf (Sited file) bytes written = IsSitesOf bytes written
+IsDoneOf (Sliced file function location) bytes written = IsSliceOf function location bytes written
 
 -- the file that the words name was read to its end, and what is said of its bytes holds
 pub record OfFile (P : Wanted → List ℕ → Type 0) (r : Reading) : Type 0 where

@@ -1,9 +1,11 @@
 -- Why a file is refused, and the line that says it: the first of these that holds, in this order. Each says the byte, or the function and
 -- node, at which it shows.
-use Rattle.std.specs.Prelude.{◌≡◌, ◌⊎◌, ℕ, false, true, List, Some, codes, Result, Ok, Err, Vec}
+use Rattle.std.specs.Prelude.{◌≡◌, ◌⊎◌, ℕ, false, true, List, None, Some, codes, Result, Ok, Err, Vec}
 use Rattle.std.specs.declared.alloc.Global.{Global}
 use Rattle.std.specs.declared.alloc.AllocError.{AllocError}
 use Rattle.flat_ir.specs.declared.check.CheckError.{CheckError}
+use Rattle.flat_ir.specs.declared.names.FuncId.{FuncId}
+use Rattle.flat_ir.specs.declared.names.Location.{Location}
 use Rattle.flat_ir.specs.declared.program.ProgramData.{ProgramData}
 use Rattle.checks.specs.Errors.{IsFirstOf}
 use Rattle.ir_tree.specs.declared.module.IrTree.{IrTree}
@@ -16,7 +18,8 @@ use Rattle.ir_resolve.specs.Resolving as resolving
 use Rattle.explorer.specs.Built.{is_built}
 use Rattle.refusal_lines.specs.Refusals.{refused, misread_line, unresolved_line, unchecked_line}
 use Rattle.chop_words.specs.declared.options.Options.{Options}
-use Rattle.chop_words.specs.Words.{Wanted, Explored, Printed, Sited}
+use Rattle.chop_words.specs.Words.{Wanted, Explored, Ran, Printed, Sited, Sliced}
+use Rattle.slice_lines.specs.Targets.{function_named, location_named, unknown_line}
 use Rattle.chop_top.specs.declared.accepting.Stop.{Stop}
 use Rattle.chop_top.specs.declared.accepting.Stop.TheVariants.{Line, Memory}
 use Rattle.chop_top.specs.Accepted.{Reads}
@@ -64,17 +67,40 @@ pub record IsNotBuilt (bytes written : List ℕ) : Type 0 where
   pub unbuilt : is_built program ≡ false
   pub line : written ≡ refused (codes "NotBuilt")
 
+-- a word names no function that the text defines; or, where the other does, no location at the end of that function's calls
+pub data IsUnknown (p : ProgramData) (function location word : List ℕ) : Type 0 where
+  no_function : function_named p function ≡ None → word ≡ function → IsUnknown p function location word
+  no_location : (f : FuncId) → function_named p function ≡ Some f → location_named p f location ≡ None → word ≡ location → IsUnknown p function location word
+
+pub record IsUnknownTarget (function location bytes written : List ℕ) : Type 0 where
+  pub program : ProgramData
+  pub reads : Reads bytes program
+  pub word : List ℕ
+  pub unknown : IsUnknown program function location word
+  pub line : written ≡ unknown_line word
+
+-- the words name a function that the text defines and a location at the end of its calls
+pub record IsKnown (p : ProgramData) (function location : List ℕ) : Type 0 where
+  pub func : FuncId
+  pub named : function_named p function ≡ Some func
+  pub at' : Location
+  pub place : location_named p func location ≡ Some at'
+
 -- what is wanted can't be done with the bytes
 abbrev pub IsRefusalOf : Wanted → List ℕ → List ℕ → Type 0
 IsRefusalOf (Explored options file) bytes written = IsUnaccepted bytes written ⊎ IsNotBuilt bytes written
+IsRefusalOf (Ran input steps file) bytes written = IsUnaccepted bytes written
 IsRefusalOf (Printed file) bytes written = IsUnaccepted bytes written
 IsRefusalOf (Sited file) bytes written = IsUnaccepted bytes written
+IsRefusalOf (Sliced file function location) bytes written = IsUnaccepted bytes written ⊎ IsUnknownTarget function location bytes written
 
 -- the program can be handled as is wanted
 abbrev pub IsBuiltFor : Wanted → ProgramData → Type 0
 IsBuiltFor (Explored options file) p = is_built p ≡ true
+IsBuiltFor (Ran input steps file) p = Unit {0}
 IsBuiltFor (Printed file) p = Unit {0}
 IsBuiltFor (Sited file) p = Unit {0}
+IsBuiltFor (Sliced file function location) p = IsKnown p function location
 
 -- a line to stop with, or that memory ran out
 abbrev pub stop_of : Result (Vec ℕ Global) AllocError → Stop

@@ -1,6 +1,6 @@
 //! The top call.
 ghost use Rattle.std.specs.Prelude.{◌≡◌, ℕ, ◌<◌, ◌≤◌, ◌-◌, ◌^◌, None, List, map, length, string_bytes, IfOk};
-ghost use Rattle.chop_words.specs.Words.{AreInRange, IsInRange, Explored, Printed, Sited, wanted_by};
+ghost use Rattle.chop_words.specs.Words.{AreInRange, IsInRange, Explored, Ran, Printed, Sited, Sliced, wanted_by};
 ghost use Rattle.chop_top.specs.Accepted.{Reads};
 ghost use Rattle.chop_top.specs.Outcomes.{Reading, Outcome, IsComplete, Answered, Judged, Text, limit, IsReport, IsLine, text_or_memory};
 
@@ -14,7 +14,9 @@ use ir_tree::printing::print;
 use places::{Home, Opened};
 use refusal_lines::refused_line;
 use report::report;
+use run_lines::run_text;
 use site_lines::sites_text;
+use slice_lines::{function_named, location_named, slice_text, unknown_line};
 use std::alloc::{AllocError, Global};
 use std::marker::Brand;
 use std::sync::Wait;
@@ -123,6 +125,23 @@ fn explored(alloc: Global, bytes: &[u8], options: Options) -> Answer
     }
 }
 
+// The line of the run of a file's program on an input, or the line that says why there is none.
+fn ran(alloc: Global, bytes: &[u8], input: &[u8], steps: u64) -> Answer
+    requires { length bytes.now ≤ limit }
+    ensures { (file : List ℕ) → Judged result (Ran input.now steps file) bytes.now }
+{
+    match accepted(alloc, bytes) {
+        Ok((_, program)) => {
+            text_or_memory(Status::Done, run_text(alloc, &program, input, steps))
+        }
+        Err(Stop::Line(text)) => Answer::Text {
+            status: Status::Refused,
+            text,
+        },
+        Err(Stop::Memory) => Answer::Memory,
+    }
+}
+
 // The text of the module of a file's bytes, or the line that says why there is none.
 fn printed(alloc: Global, bytes: &[u8]) -> Answer
     requires { length bytes.now ≤ limit }
@@ -153,6 +172,35 @@ fn sited(alloc: Global, bytes: &[u8]) -> Answer
     }
 }
 
+// The lines of the slice of a program's function for a location, or that a word names nothing.
+fn sliced_program(alloc: Global, program: &Program, function: &str, location: &str) -> Answer
+    ensures { (bytes file : List ℕ) → Reads bytes program.now → Judged result (Sliced file function.now location.now) bytes }
+{
+    let Some(func) = function_named(program, function) else {
+        return text_or_memory(Status::Refused, unknown_line(alloc, function));
+    };
+    match location_named(alloc, program, func, location) {
+        Ok(Some(at)) => text_or_memory(Status::Done, slice_text(alloc, program, func, at)),
+        Ok(None) => text_or_memory(Status::Refused, unknown_line(alloc, location)),
+        Err(AllocError) => Answer::Memory,
+    }
+}
+
+// The lines of the slice of a file's program, or the line that says why there are none.
+fn sliced(alloc: Global, bytes: &[u8], function: &str, location: &str) -> Answer
+    requires { length bytes.now ≤ limit }
+    ensures { (file : List ℕ) → Judged result (Sliced file function.now location.now) bytes.now }
+{
+    match accepted(alloc, bytes) {
+        Ok((_, program)) => sliced_program(alloc, &program, function, location),
+        Err(Stop::Line(text)) => Answer::Text {
+            status: Status::Refused,
+            text,
+        },
+        Err(Stop::Memory) => Answer::Memory,
+    }
+}
+
 // What the bytes of a file come to.
 fn judged(alloc: Global, command: &Command, bytes: &[u8]) -> Answer
     requires short { length bytes.now ≤ limit }
@@ -161,8 +209,12 @@ fn judged(alloc: Global, command: &Command, bytes: &[u8]) -> Answer
 {
     match command {
         Command::Explore { options, .. } => explored(alloc, bytes, *options),
+        Command::Run { input, steps, .. } => ran(alloc, bytes, input.as_slice(), *steps),
         Command::Print { .. } => printed(alloc, bytes),
         Command::Sites { .. } => sited(alloc, bytes),
+        Command::Slice {
+            function, location, ..
+        } => sliced(alloc, bytes, function.as_str(), location.as_str()),
     }
 }
 

@@ -1,5 +1,5 @@
 -- The line of a run: how it ended, what it had written out, and how many nodes were attempted.
-use Rattle.std.specs.Prelude.{ℕ, List, [], ◌∷◌, ◌++◌, codes}
+use Rattle.std.specs.Prelude.{◌≡◌, ℕ, List, [], ◌∷◌, ◌++◌, codes}
 use Rattle.std.specs.Fmt.{decimal}
 use Rattle.flat_ir.specs.declared.names.FuncId.{FuncId}
 use Rattle.flat_ir.specs.declared.names.NodeId.{NodeId}
@@ -9,6 +9,7 @@ use Rattle.concrete_machine.specs.declared.running.Outcome.{Outcome}
 use Rattle.concrete_machine.specs.declared.running.Outcome.TheVariants as outcome
 use Rattle.concrete_machine.specs.declared.running.RunEnd.{RunEnd}
 use Rattle.concrete_machine.specs.declared.running.RunEnd.TheVariants as ended
+use Rattle.concrete_machine.specs.Running.{IsRunOf}
 use Rattle.name_texts.specs.Lines.{line, function_text}
 use Rattle.value_texts.specs.Values.{bytes_text, fault_text}
 
@@ -39,3 +40,9 @@ spent_line written steps = codes "spent" ++ output_and_steps written steps
 abbrev pub run_line : ProgramData → ℕ → RunEnd → List ℕ
 run_line p steps (ended.Ended shown attempted) = ended_line p shown attempted
 run_line p steps (ended.Spent written) = spent_line written steps
+
+-- this is the line of the program's run on the input, of which no more than so many nodes are attempted
+pub record IsRunText (p : ProgramData) (input : List ℕ) (steps : ℕ) (written : List ℕ) : Type 0 where
+  pub end : RunEnd
+  pub runs : IsRunOf p input steps end
+  pub is : written ≡ run_line p steps end

@@ -1,6 +1,6 @@
-//! The line that says how a run of a program ended.
+//! The run of a program, as the line that says how it ended.
 #![tactic(auto)]
 
 mod lines;
 
-pub use lines::run_line;
+pub use lines::run_text;

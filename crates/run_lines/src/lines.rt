@@ -1,9 +1,10 @@
 //! The line of a run.
 ghost use Rattle.std.specs.Prelude.{◌≡◌, ◌++◌, codes, IfOk, OnOk};
 ghost use Rattle.std.specs.Fmt.{decimal};
+ghost use Rattle.checks.specs.Errors.{IsChecked};
 ghost use Rattle.run_lines.specs.Runs as spec;
 
-use concrete_machine::{Outcome, RunEnd};
+use concrete_machine::{Outcome, RunEnd, run};
 use flat_ir::{FaultKind, FuncId, NodeId, Program};
 use name_texts::put_function;
 use std::alloc::{AllocError, Global};
@@ -120,9 +121,7 @@ fn put_end(
     }
 }
 
-/// The line that says how a run of at most so many steps ended: with a status, at a fault, or not yet; what it had written out; and how many
-/// nodes were attempted.
-pub fn run_line(
+fn run_line(
     alloc: Global,
     program: &Program,
     steps: u64,
@@ -133,4 +132,19 @@ pub fn run_line(
     let mut text = Vec::new(alloc);
     put_end(alloc, &mut text, program, steps, end)?;
     Ok(text)
+}
+
+/// The line of a program's run on an input, of which no more than so many nodes are attempted: that it ended with a status, or at a fault, or
+/// not yet; what it had written out; and how many nodes were attempted. It fails for want of memory alone.
+pub fn run_text(
+    alloc: Global,
+    program: &Program,
+    input: &[u8],
+    steps: u64,
+) -> Result<Vec<u8>, AllocError>
+    requires { IsChecked program.now.funcs }
+    ensures { IfOk result (λ text. spec.IsRunText program.now input.now steps text.items) }
+{
+    let end = run(alloc, program, input, steps)?;
+    run_line(alloc, program, steps, &end)
 }
