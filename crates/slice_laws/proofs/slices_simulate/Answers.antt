@@ -1,0 +1,4 @@
+use Rattle.slice_laws.proofs.slices_simulate.Goals as goal
+
+pub returns : goal.returns
+returns c = ?
