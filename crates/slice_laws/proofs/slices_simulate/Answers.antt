@@ -1,3 +1,6 @@
+use Rattle.slice_laws.proofs.Outcomes.{attempt_did}
+use Rattle.slice_laws.proofs.Histories.{still_agree}
+use Rattle.slice_laws.proofs.Lists.{row_at}
 use Rattle.slice_laws.proofs.slices_simulate.Goals as goal
 
 pub returns : goal.returns
