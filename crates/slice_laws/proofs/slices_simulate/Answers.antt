@@ -1,3 +1,4 @@
+use Rattle.slice_laws.proofs.Likewise.{attempt_likewise}
 use Rattle.slice_laws.proofs.Outcomes.{attempt_did}
 use Rattle.slice_laws.proofs.Histories.{still_agree}
 use Rattle.slice_laws.proofs.Lists.{row_at}
