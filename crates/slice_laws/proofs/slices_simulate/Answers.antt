@@ -1,3 +1,5 @@
+use Rattle.slice_laws.proofs.Frees.{frees_quiet}
+use Rattle.slice_laws.proofs.Frames.{shows_moved}
 use Rattle.slice_laws.proofs.Likewise.{attempt_likewise}
 use Rattle.slice_laws.proofs.Outcomes.{attempt_did}
 use Rattle.slice_laws.proofs.Histories.{still_agree}
