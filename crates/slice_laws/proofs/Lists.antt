@@ -3,6 +3,7 @@ use Rattle.std.specs.Prelude.{slice_get, slice_set, unwrap_or, slice_index_or, m
 use mathlib.Core.List.{reverse_aux}
 use Rattle.std.proofs.Common.{◌≡◌, ◌<◌, ◌≤◌, ◌+◌, ◌∙◌, ℕ, zero, suc, Bool, true, false, List, [], ◌∷◌, ◌++◌, length, Option, Some, None, refl, sym, ap, subst, arith, ◌⊎◌, inl, inr}
 use Rattle.std.specs.List.{Contains, filter, AllByRecursion as Each}
+use Rattle.std.proofs.lemmas.List.Elements.{Contains-append_left, Contains-append_right, Contains-push}
 
 pub true_or_false : (b : Bool) → (b ≡ true) ⊎ (b ≡ false)
 true_or_false true = inl refl
@@ -80,3 +81,17 @@ pub row_at : {A B : Type 0} (f : A → List B) (xs : List A) (ys : List (List B)
 row_at f [] ys k d lt = absurd (omega (arith, lt))
 row_at f (x ∷ xs) ys zero d lt = refl
 row_at f (x ∷ xs) ys (suc k) d lt = row_at f xs ys k d (omega (arith, lt))
+
+pub first : {A : Type 0} (x : A) (xs : List A) → Contains (x ∷ xs) x
+first x xs = Contains-append_left (x ∷ []) xs x (Contains-push [] x)
+
+pub second : {A : Type 0} (x y : A) (xs : List A) → Contains (x ∷ y ∷ xs) y
+second x y xs = Contains-append_right (x ∷ []) (y ∷ xs) y (first y xs)
+
+pub later : {A : Type 0} (x y : A) (xs : List A) → Contains xs y → Contains (x ∷ xs) y
+later x y xs there = Contains-append_right (x ∷ []) xs y there
+
+-- from each element by its place to each by recursion
+pub each_from : {A : Type 0} (P : A → Type 0) (xs : List A) → ((x : A) → Contains xs x → P x) → Each P xs
+each_from P [] all = tt
+each_from P (x ∷ xs) all = (all x (first x xs), each_from P xs (λ y there. all y (later x y xs there)))

@@ -2,7 +2,6 @@
 use Rattle.std.specs.Prelude.{slice_get, slice_set, map, ◌==◌, ◌%◌, ◌^◌, nat_lt, if◌then◌else◌}
 use Rattle.std.proofs.Common.{◌≡◌, ◌∙◌, ◌+◌, ℕ, zero, suc, Bool, true, false, not, ◌&&◌, List, [], ◌∷◌, ◌++◌, Option, Some, None, refl, sym, ap, subst, append_assoc}
 use Rattle.std.specs.List.{Contains, AllByRecursion as Each}
-use Rattle.std.proofs.lemmas.List.Elements.{Contains-append_left, Contains-append_right, Contains-push}
 use Rattle.flat_ir.specs.declared.names.FuncId.{FuncId}
 use Rattle.flat_ir.specs.declared.names.NodeId.{NodeId}
 use Rattle.flat_ir.specs.declared.names.RegId.{RegId}
@@ -33,7 +32,7 @@ use Rattle.points_to.specs.Asked.{holder_in}
 use Rattle.points_to.specs.Within.{BaseWithin, PointsWithin}
 use Rattle.points_to.proofs.RunsWithin.{address_within}
 use Rattle.mod_ref.specs.Changes.{ChangesAt, changes, writes, frees, changed_by, written_through, freed_by, is_malloc_site, location_of}
-use Rattle.slice_laws.proofs.Lists.{set_apart}
+use Rattle.slice_laws.proofs.Lists.{set_apart, first, second, later}
 
 -- a state with other registers, at another node, and with a longer history
 abbrev pub moved_to : State → List ConcreteValue → NodeId → History → List Event → State
@@ -51,15 +50,6 @@ RunDid p n s (Over e t) = Unit {0}
 unless_did : (p : ProgramData) (n : Node) (s t : State) (o : Option FaultKind) (r : Run) → (o ≡ None → RunDid p n s r) → RunDid p n s (unless o t r)
 unless_did p n s t None r h = h refl
 unless_did p n s t (Some kind) r h = tt
-
-first : {A : Type 0} (x : A) (xs : List A) → Contains (x ∷ xs) x
-first x xs = Contains-append_left (x ∷ []) xs x (Contains-push [] x)
-
-second : {A : Type 0} (x y : A) (xs : List A) → Contains (x ∷ y ∷ xs) y
-second x y xs = Contains-append_right (x ∷ []) (y ∷ xs) y (first y xs)
-
-later : {A : Type 0} (x y : A) (xs : List A) → Contains xs y → Contains (x ∷ xs) y
-later x y xs c = Contains-append_right (x ∷ []) xs y c
 
 -- registers of which one is set
 one_set : (rs : List RegId) (regs : List ConcreteValue) (x : RegId) (v : ConcreteValue) → Contains rs x → (r : RegId) → (Contains rs r → ⊥) → slice_get (slice_set regs x.0 v) r.0 ≡ slice_get regs r.0

@@ -1,3 +1,5 @@
+use Rattle.slice_laws.proofs.Keeping.{residual_executes}
+use Rattle.slice_laws.proofs.Stages.{silent, sees_same}
 use Rattle.slice_laws.proofs.Frees.{frees_quiet}
 use Rattle.slice_laws.proofs.Frames.{shows_moved}
 use Rattle.slice_laws.proofs.Likewise.{attempt_likewise}
