@@ -59,7 +59,7 @@ pub data Shows (p : ProgramData) (f : FuncId) (items : Items) : Frame → List F
 
 -- ---- edges
 
-past : (p : ProgramData) (g : FuncId) (n : NodeId) → end_of p g ≤ n.0 → node_at p g n ≡ node.Unreachable
+pub past : (p : ProgramData) (g : FuncId) (n : NodeId) → end_of p g ≤ n.0 → node_at p g n ≡ node.Unreachable
 past p g n far = ap (λ (o : Option Node). unwrap_or o node.Unreachable) (slice_get_past (nodes_of (func_at p g)) n.0 far)
 
 -- a node that is something else than what stands at no place is one of the function's

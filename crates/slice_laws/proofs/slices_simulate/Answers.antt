@@ -1,3 +1,4 @@
+use Rattle.slice_laws.proofs.Returning.{kept_return}
 use Rattle.slice_laws.proofs.Keeping.{residual_executes}
 use Rattle.slice_laws.proofs.Stages.{silent, sees_same}
 use Rattle.slice_laws.proofs.Frees.{frees_quiet}
