@@ -1,13 +1,14 @@
 -- How the frames of a residual run stand to those of the whole run.
-use Rattle.std.specs.Prelude.{slice_get, slice_set, slice_index_or, unwrap_or, map}
-use Rattle.std.proofs.Common.{◌≡◌, ◌<◌, ◌≤◌, ◌+◌, ◌∙◌, ◌==◌, ◌||◌, ◌⊎◌, ⊎_elim, ℕ, Bool, true, false, List, [], ◌∷◌, ◌++◌, length, Option, Some, None, refl, sym, ap, subst, arith}
+use Rattle.std.specs.Prelude.{slice_get, slice_set, unwrap_or, map}
+use Rattle.std.proofs.Common.{◌≡◌, ◌<◌, ◌≤◌, ◌+◌, ◌∙◌, ◌==◌, ⊎_elim, ℕ, true, false, List, [], ◌∷◌, Option, Some, refl, sym, ap, subst, arith}
 use Rattle.std.specs.List.{Contains}
 use Rattle.std.proofs.lemmas.Bool.{cases_lt, eqb-true, eq-eqb}
 use Rattle.std.proofs.lemmas.Option.{slice_get_past}
-use Rattle.control_closure.specs.Met.{HasEdge, Meets, here, beyond}
+use Rattle.control_closure.specs.Met.{HasEdge, Meets, beyond}
 use Rattle.flat_ir.specs.declared.names.FuncId.{FuncId}
 use Rattle.flat_ir.specs.declared.names.NodeId.{NodeId}
 use Rattle.flat_ir.specs.declared.names.RegId.{RegId}
+use Rattle.flat_ir.specs.declared.names.Location.{Location}
 use Rattle.flat_ir.specs.declared.nodes.Node.{Node}
 use Rattle.flat_ir.specs.declared.nodes.Node.TheVariants as node
 use Rattle.flat_ir.specs.declared.program.ProgramData.{ProgramData}
@@ -16,8 +17,9 @@ use Rattle.flat_ir.specs.Machine.{Frame, nodes_of, func_at, node_at, count_here,
 use Rattle.flat_ir.specs.Whole.{successors_of}
 use Rattle.points_to.specs.Within.{callee_of}
 use Rattle.slices.specs.Nodes.{Reads}
+use Rattle.slices.specs.SliceFacts.{SliceFacts}
 use Rattle.slices.specs.Slice.{Items, Keep, Looks, calls, end_of, leads_to, graph_of, retained}
-use Rattle.slice_laws.proofs.Lists.{not_both, set_apart, set_both, row_at, none_in, Contains-map}
+use Rattle.slice_laws.proofs.Lists.{true_or_false, not_both, set_apart, set_both, row_at, none_in, Contains-map}
 use Rattle.slice_laws.proofs.Outcomes.{is_plain}
 
 -- a retained node reads the register
@@ -135,3 +137,12 @@ alike_counted p items frame regs' counts' alike kept = record {
       let e = alike.counts frame.node kept in
       ap (λ (o : Option ℕ). slice_get (slice_set counts' frame.node.0 (unwrap_or o 0 + 1)) n.0) e ∙ set_both frame.counts counts' frame.node.0 n.0 (count_here frame + 1) (alike.counts n k);
 }
+
+-- ---- a call that isn't retained
+
+pub shows_called : (p : ProgramData) (f : FuncId) (at' : Location) (items : Items) → SliceFacts p f at' items → (frame frame' : Frame) (rest rest' : List Frame) (callee : FuncId) (new : Frame) → items (Keep frame.func frame.node) ≡ false
+    → callee_of (node_at p frame.func frame.node) ≡ Some callee → new.func ≡ callee → Shows p f items frame rest frame' rest' → Shows p f items new (frame ∷ rest) frame' rest'
+shows_called p f at' items facts frame frame' rest rest' callee new un called is shows =
+    let looks : Looks p f frame.func = shows_looks p f items frame frame' rest rest' shows in
+    let quiet : IsQuiet items callee = λ n. ⊎_elim (λ kept. not_both (items (Keep frame.func frame.node)) (facts.calls frame.func frame.node callee n looks called kept) un) (λ no'. no') (true_or_false (items (Keep callee n))) in
+    hidden new frame frame' rest rest' (subst (λ (g : FuncId). Looks p f g) (sym is) (calls frame.func frame.node callee looks called)) (subst (λ (g : FuncId). IsQuiet items g) (sym is) quiet) un shows

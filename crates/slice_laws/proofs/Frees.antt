@@ -1,6 +1,6 @@
 -- What frames free at their ends.
 use Rattle.std.specs.Prelude.{slice_get, unwrap_or, reverse}
-use Rattle.std.proofs.Common.{◌≡◌, ◌+◌, ◌∙◌, ◌⊎◌, ⊎_elim, ℕ, zero, suc, Bool, true, false, List, [], ◌∷◌, ◌++◌, Option, Some, None, refl, sym, ap, subst, arith}
+use Rattle.std.proofs.Common.{◌≡◌, ◌+◌, ◌∙◌, ⊎_elim, ℕ, zero, suc, false, List, [], ◌∷◌, ◌++◌, Option, refl, sym, ap, arith}
 use Rattle.std.specs.List.{filter, AllByRecursion as Each}
 use Rattle.std.proofs.lemmas.List.Elements.{filter-append}
 use Rattle.flat_ir.specs.declared.names.FuncId.{FuncId}
@@ -17,7 +17,7 @@ use Rattle.flat_ir.specs.History.{Change, Free}
 use Rattle.flat_ir.specs.Machine.{Frame, func_at, nodes_of, node_at}
 use Rattle.flat_ir.specs.Steps.{frees_of_node, frees_at, frees_from}
 use Rattle.points_to.proofs.AskedIn.{Follow, follow_head, follow_tail}
-use Rattle.mod_ref.specs.Changes.{ChangesAt, changes, changed_by, location_of}
+use Rattle.mod_ref.specs.Changes.{ChangesAt, changes, changed_by}
 use Rattle.slices.specs.Slice.{Items, Keep, Need, Looks}
 use Rattle.slices.specs.SliceFacts.{SliceFacts}
 use Rattle.slice_laws.proofs.Lists.{true_or_false, not_both, filter_none, filter_turned}
@@ -57,9 +57,9 @@ from_alike p f at' items facts frame node' regs' counts' looks alike k (x ∷ xs
     let its = frees_at other n (unwrap_or (slice_get counts' k) 0) x in
     let at = node_of p frame.func k x xs follow in
     let head : filter (is_needed items) its ≡ filter (is_needed items) mine =
-        ⊎_elim (λ kept. ap (λ (o : Option ℕ). filter (is_needed items) (frees_at other n (unwrap_or o 0) x)) (alike.counts n kept) ∙ same x (unwrap_or (slice_get frame.counts k) 0))
-        (λ un. at_none p f at' items facts other n (unwrap_or (slice_get counts' k) 0) x looks at un
-        ∙ sym (at_none p f at' items facts frame n (unwrap_or (slice_get frame.counts k) 0) x looks at un)) (true_or_false (items (Keep frame.func n))) in
+    ⊎_elim (λ kept. ap (λ (o : Option ℕ). filter (is_needed items) (frees_at other n (unwrap_or o 0) x)) (alike.counts n kept) ∙ same x (unwrap_or (slice_get frame.counts k) 0))
+    (λ un. at_none p f at' items facts other n (unwrap_or (slice_get counts' k) 0) x looks at un
+    ∙ sym (at_none p f at' items facts frame n (unwrap_or (slice_get frame.counts k) 0) x looks at un)) (true_or_false (items (Keep frame.func n))) in
     filter-append (is_needed items) its (frees_from other (k + 1) xs)
     ∙ (λ i. head i ++ from_alike p f at' items facts frame node' regs' counts' looks alike (k + 1) xs (follow_tail (nodes_of (func_at p frame.func)) k x xs follow) i)
     ∙ sym (filter-append (is_needed items) mine (frees_from frame (k + 1) xs))

@@ -1,32 +1,25 @@
 -- Retained nodes are executed by both runs.
-use Rattle.std.specs.Prelude.{slice_get, slice_set, unwrap_or, map, reverse}
-use Rattle.std.specs.Option.{option_map}
-use Rattle.std.proofs.Common.{◌≡◌, ◌<◌, ◌∙◌, ◌+◌, ℕ, suc, Bool, true, false, List, [], ◌∷◌, ◌++◌, Option, Some, None, refl, sym, ap, subst}
-use Rattle.std.specs.List.{filter, AllByRecursion as Each}
+use Rattle.std.specs.Prelude.{slice_get, slice_set, unwrap_or, map}
+use Rattle.std.proofs.Common.{◌≡◌, ◌<◌, ◌∙◌, ◌+◌, ℕ, suc, true, List, [], ◌∷◌, Option, refl, sym, ap, subst}
+use Rattle.std.specs.List.{AllByRecursion as Each}
 use Rattle.control_closure.specs.Met.{here}
 use Rattle.flat_ir.specs.declared.names.FuncId.{FuncId}
 use Rattle.flat_ir.specs.declared.names.NodeId.{NodeId}
 use Rattle.flat_ir.specs.declared.names.RegId.{RegId}
-use Rattle.flat_ir.specs.declared.names.CallStep.{CallStep}
-use Rattle.flat_ir.specs.declared.nodes.Node.{Node}
 use Rattle.flat_ir.specs.declared.nodes.Node.TheVariants as node
 use Rattle.flat_ir.specs.declared.nodes.Operand.{Operand}
-use Rattle.flat_ir.specs.declared.program.ProgramData.{ProgramData}
 use Rattle.flat_ir.specs.declared.residual.Next.{Next}
-use Rattle.flat_ir.specs.declared.residual.Next.TheVariants as next
 use Rattle.flat_ir.specs.declared.values.ConcreteValue.{ConcreteValue}
 use Rattle.flat_ir.specs.History.{History}
-use Rattle.flat_ir.specs.Machine.{Event, Frame, State, Run, On, Over, node_at, value_in, counted, at_node, entered, step_here}
-use Rattle.flat_ir.specs.Steps.{attempt, with_frame, calls}
-use Rattle.flat_ir.specs.Whole.{operands_of}
-use Rattle.points_to.specs.Within.{IsWithin, RunWithin, callee_of}
-use Rattle.slices.specs.Slice.{Items, Keep, Looks, calls as looks_on, end_of}
-use Rattle.slice_laws.specs.ResidualRun.{CallRun, Runs, Ends, Breaks, lifted, executes, goes_to, call_step, call_goes_on, call_run}
+use Rattle.flat_ir.specs.Machine.{Event, Frame, State, Run, On, Over, node_at, value_in, entered, step_here}
+use Rattle.flat_ir.specs.Steps.{calls}
+use Rattle.points_to.specs.Within.{RunWithin, callee_of}
+use Rattle.slices.specs.Slice.{Keep, Looks, calls as looks_on, end_of}
+use Rattle.slice_laws.specs.ResidualRun.{Runs, lifted, executes, goes_to, call_goes_on}
 use Rattle.slice_laws.proofs.Histories.{Grew, grow}
-use Rattle.slice_laws.proofs.Outcomes.{moved_to, is_plain}
-use Rattle.slice_laws.proofs.Likewise.{SeesSame, Likewise, likewise, RunsLikewise, attempt_likewise}
-use Rattle.slice_laws.proofs.Frames.{Alike, twin, IsAhead, Waiting, both, Shows, level, hidden, below_at, alike_counted, is_retained}
-use Rattle.slice_laws.proofs.Stages.{Stage, residual, Beside, Follows, sees_same}
+use Rattle.slice_laws.proofs.Likewise.{SeesSame, likewise, RunsLikewise}
+use Rattle.slice_laws.proofs.Frames.{Alike, twin, IsAhead, Waiting, both, Shows, level, is_retained}
+use Rattle.slice_laws.proofs.Stages.{Stage, residual, Follows}
 
 -- a frame of the whole run, counted, with the residual run's registers and counts
 abbrev pub counted' : Frame → List ℕ → List ℕ
@@ -44,7 +37,7 @@ residual_executes c frame rest' node' regs' counts' h' events' steps looks kept 
 
 -- ---- a node that is no call and no return
 
-kept_follows : (c : Stage) (frame : Frame) (rest rest' : List Frame) (h : History) (events : List Event) (regs' : List ConcreteValue) (counts' : List ℕ) (h' : History) (events' : List Event) (steps : ℕ) (r r' : Run)
+pub kept_follows : (c : Stage) (frame : Frame) (rest rest' : List Frame) (h : History) (events : List Event) (regs' : List ConcreteValue) (counts' : List ℕ) (h' : History) (events' : List Event) (steps : ℕ) (r r' : Run)
     → Looks c.p c.f frame.func → Alike c.p c.items frame regs' counts' → Waiting c.p c.f c.items frame.func rest rest' → Grew c.items c.h c.h' h h'
     → RunsLikewise (record { frame = frame; callers = rest; history = h; events = events }) (record { frame = twin frame frame.node regs' counts'; callers = rest'; history = h'; events = events' }) r r'
     → RunWithin c.p r → residual c (suc steps) ≡ lifted r' → Follows c (lifted r)
@@ -70,7 +63,7 @@ entered_alike c s s' callee args result next same =
     values [] all = refl
     values (a ∷ as') all = λ i. all.0 i ∷ values as' all.1 i
 
-kept_call : (c : Stage) (frame : Frame) (rest rest' : List Frame) (h : History) (events : List Event) (regs' : List ConcreteValue) (counts' : List ℕ) (h' : History) (events' : List Event) (steps : ℕ)
+pub kept_call : (c : Stage) (frame : Frame) (rest rest' : List Frame) (h : History) (events : List Event) (regs' : List ConcreteValue) (counts' : List ℕ) (h' : History) (events' : List Event) (steps : ℕ)
     (callee : FuncId) (args : List Operand) (result : Option RegId) (next : NodeId) → node_at c.p frame.func frame.node ≡ node.Call callee args result next → c.items (Keep frame.func frame.node) ≡ true
     → Looks c.p c.f frame.func → Alike c.p c.items frame regs' counts' → Waiting c.p c.f c.items frame.func rest rest' → Grew c.items c.h c.h' h h'
     → SeesSame c.p (node.Call callee args result next) (record { frame = frame; callers = rest; history = h; events = events }) (record { frame = twin frame frame.node regs' counts'; callers = rest'; history = h'; events = events' })

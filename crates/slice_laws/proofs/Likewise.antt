@@ -1,9 +1,8 @@
 -- A node that sees the same in two states does the same in both.
-use Rattle.std.specs.Prelude.{slice_get, slice_set, map, ◌==◌, ◌%◌, ◌^◌, nat_lt, if◌then◌else◌, unwrap_or}
-use Rattle.std.proofs.Common.{◌≡◌, ◌∙◌, ◌+◌, ◌*◌, ℕ, zero, suc, Bool, true, false, not, ◌&&◌, List, [], ◌∷◌, ◌++◌, Option, Some, None, refl, sym, ap, subst}
+use Rattle.std.specs.Prelude.{slice_get, slice_set, map, ◌==◌, ◌%◌, ◌^◌, nat_lt, if◌then◌else◌}
+use Rattle.std.proofs.Common.{◌≡◌, ◌∙◌, ◌+◌, ◌*◌, ℕ, Bool, true, false, not, ◌&&◌, List, [], ◌∷◌, ◌++◌, Option, Some, None, refl, sym, ap, subst}
 use Rattle.std.specs.List.{AllByRecursion as Each, flat_map}
 use Rattle.bitnum.specs.Operations.{applied, sign_widened}
-use Rattle.flat_ir.specs.declared.names.FuncId.{FuncId}
 use Rattle.flat_ir.specs.declared.names.NodeId.{NodeId}
 use Rattle.flat_ir.specs.declared.names.RegId.{RegId}
 use Rattle.flat_ir.specs.declared.names.ObjectName.{ObjectName}
@@ -22,11 +21,11 @@ use Rattle.flat_ir.specs.declared.values.ConcreteValue.{ConcreteValue}
 use Rattle.flat_ir.specs.declared.values.ConcreteValue.TheVariants.{Int, Ptr}
 use Rattle.flat_ir.specs.declared.values.FaultKind.{FaultKind}
 use Rattle.flat_ir.specs.declared.values.FaultKind.TheVariants as fault
-use Rattle.flat_ir.specs.History.{History, Change, Alloc, Get, Put, is_alive, size_of, byte_at, position}
+use Rattle.flat_ir.specs.History.{History, Alloc, Get, Put, is_alive, size_of, byte_at, position}
 use Rattle.flat_ir.specs.Effects.{written_in, stored_in, freed_in}
-use Rattle.flat_ir.specs.Registers.{int, address, number, cut, bytes_of_type, bytes_of_value, joined, first_of}
-use Rattle.flat_ir.specs.Machine.{Event, Branched, Frame, State, Run, On, Over, type_at, value_in, made_here, count_here}
-use Rattle.flat_ir.specs.Steps.{attempt, unless, with_frame, number_in, address_in, division_fault, bit, related, cast_to, width_of, moved_by, moved_by_all, free_fault, freed_object_fault, made_by_malloc, access_fault, object_fault, is_within, gives, gives_if, gives_loaded, new_here, allocated, byte_there, loaded, unsigned_byte, next_byte, branches, set_all, case_of, to, with_history}
+use Rattle.flat_ir.specs.Registers.{int, address, number, bytes_of_type, bytes_of_value, joined, first_of}
+use Rattle.flat_ir.specs.Machine.{Event, Frame, State, Run, On, Over, type_at, value_in, made_here, count_here}
+use Rattle.flat_ir.specs.Steps.{attempt, unless, with_frame, number_in, address_in, division_fault, bit, related, cast_to, width_of, moved_by, moved_by_all, free_fault, made_by_malloc, access_fault, is_within, gives, gives_if, gives_loaded, new_here, allocated, byte_there, loaded, unsigned_byte, branches, set_all, case_of, to, with_history}
 use Rattle.flat_ir.specs.Whole.{operands_of, operands_of_part}
 use Rattle.slices.specs.Nodes.{read_through, used_alive, reads_input}
 use Rattle.slice_laws.proofs.Lists.{set_both}

@@ -19,14 +19,14 @@ use Rattle.flat_ir.specs.declared.program.ProgramData.{ProgramData}
 use Rattle.flat_ir.specs.declared.values.Address.{Address}
 use Rattle.flat_ir.specs.declared.values.ConcreteByte.{ConcreteByte}
 use Rattle.flat_ir.specs.declared.values.ConcreteValue.{ConcreteValue}
-use Rattle.flat_ir.specs.declared.values.ConcreteValue.TheVariants.{Int, Ptr}
+use Rattle.flat_ir.specs.declared.values.ConcreteValue.TheVariants.{Ptr}
 use Rattle.flat_ir.specs.declared.values.FaultKind.{FaultKind}
 use Rattle.flat_ir.specs.declared.values.FaultKind.TheVariants as fault
-use Rattle.flat_ir.specs.History.{History, Change, Write, Alloc, Free, Get, Put, site_of, is_alive}
+use Rattle.flat_ir.specs.History.{History, Write, Alloc, Free, Get, Put, site_of, is_alive}
 use Rattle.flat_ir.specs.Effects.{written_in, stored_in, freed_in}
 use Rattle.flat_ir.specs.Registers.{null, cut, bytes_of_type, bytes_of_value}
 use Rattle.flat_ir.specs.Machine.{Event, Frame, State, Run, On, Over, node_at, type_at, value_in, made_here, set}
-use Rattle.flat_ir.specs.Steps.{attempt, unless, with_frame, number_in, address_in, division_fault, free_fault, freed_object_fault, made_by_malloc, access_fault, gives, gives_if, gives_loaded, new_here, allocated, byte_there, loaded, branches, shown, set_all, case_of, to, with_history}
+use Rattle.flat_ir.specs.Steps.{attempt, unless, with_frame, number_in, address_in, division_fault, free_fault, freed_object_fault, made_by_malloc, access_fault, gives_if, gives_loaded, new_here, allocated, byte_there, loaded, branches, set_all, case_of, to, with_history}
 use Rattle.flat_ir.specs.Whole.{operands_of, results_of, successors_of}
 use Rattle.points_to.specs.Asked.{holder_in}
 use Rattle.points_to.specs.Within.{BaseWithin, PointsWithin}

@@ -1,8 +1,8 @@
 -- Frames that end in both runs, or in the whole run alone.
-use Rattle.std.specs.Prelude.{slice_get, slice_set, unwrap_or, reverse}
-use Rattle.std.specs.Option.{option_map, option_to_list}
-use Rattle.std.proofs.Common.{◌≡◌, ◌<◌, ◌∙◌, ◌⊎◌, ⊎_elim, inl, inr, ℕ, suc, Bool, true, false, List, [], ◌∷◌, ◌++◌, Option, Some, None, refl, sym, ap, subst}
-use Rattle.std.specs.List.{Contains, filter, AllByRecursion as Each}
+use Rattle.std.specs.Prelude.{slice_get, slice_set, reverse}
+use Rattle.std.specs.Option.{option_map}
+use Rattle.std.proofs.Common.{◌≡◌, ◌∙◌, ◌⊎◌, ⊎_elim, inl, inr, ℕ, suc, true, false, List, [], ◌∷◌, Option, Some, None, refl, sym, ap, subst}
+use Rattle.std.specs.List.{Contains}
 use Rattle.control_closure.specs.Met.{here, beyond}
 use Rattle.flat_ir.specs.declared.names.FuncId.{FuncId}
 use Rattle.flat_ir.specs.declared.names.NodeId.{NodeId}
@@ -12,22 +12,21 @@ use Rattle.flat_ir.specs.declared.nodes.Node.{Node}
 use Rattle.flat_ir.specs.declared.nodes.Node.TheVariants as node
 use Rattle.flat_ir.specs.declared.nodes.Operand.{Operand}
 use Rattle.flat_ir.specs.declared.residual.Next.{Next}
-use Rattle.flat_ir.specs.declared.residual.Next.TheVariants as next
 use Rattle.flat_ir.specs.declared.values.ConcreteValue.{ConcreteValue}
 use Rattle.flat_ir.specs.History.{History}
 use Rattle.flat_ir.specs.Machine.{Event, Frame, State, node_at, nodes_of, func_at, value_in, at_node}
 use Rattle.flat_ir.specs.Steps.{call_result, call_next, set_result, resumed, returns, ended, frees_from}
-use Rattle.flat_ir.specs.Whole.{operands_of, results_of}
+use Rattle.flat_ir.specs.Whole.{results_of}
 use Rattle.points_to.specs.Within.{AreCalls, RunWithin, callee_of}
 use Rattle.slices.specs.Nodes.{is_return}
-use Rattle.slices.specs.Slice.{Items, Keep, Looks, end_of, leads_to}
-use Rattle.slice_laws.specs.ResidualRun.{CallRun, Runs, Ends, returns_to, frame_ends, goes_to, call_goes_on}
+use Rattle.slices.specs.Slice.{Keep, Looks, end_of, leads_to}
+use Rattle.slice_laws.specs.ResidualRun.{Runs, returns_to, frame_ends, goes_to, call_goes_on}
 use Rattle.slice_laws.proofs.Lists.{not_both, set_apart, set_both, first}
-use Rattle.slice_laws.proofs.Histories.{is_needed, Grew, grow}
+use Rattle.slice_laws.proofs.Histories.{Grew, grow}
 use Rattle.slice_laws.proofs.Likewise.{SeesSame}
-use Rattle.slice_laws.proofs.Frames.{IsRead, Alike, twin, MeetsIn, IsAhead, IsQuiet, Waiting, none, both, Shows, level, hidden, edge_at, end_retained, not_retained, shows_moved}
+use Rattle.slice_laws.proofs.Frames.{IsRead, Alike, twin, MeetsIn, IsAhead, Waiting, none, both, Shows, level, hidden, edge_at, end_retained, not_retained, shows_moved}
 use Rattle.slice_laws.proofs.Frees.{frees_alike, frees_quiet}
-use Rattle.slice_laws.proofs.Stages.{Stage, residual, Beside, Finished, Follows, sets_unread}
+use Rattle.slice_laws.proofs.Stages.{Stage, residual, Follows, sets_unread}
 
 -- ---- what a caller receives
 
@@ -133,7 +132,7 @@ residual_ends c frame rest' node' regs' counts' h' events' steps value looks at 
     let end = end_of c.p frame.func in
     let edge = edge_at c.p frame.func frame.node (node.Ret value) end at (first end []) in
     let met : MeetsIn c.p c.items frame.func frame.node.0 end =
-        beyond end (not_retained c.p c.items frame.func frame.node edge.0 un) edge.1 (here (end_retained c.p c.items frame.func)) in
+    beyond end (not_retained c.p c.items frame.func frame.node edge.0 un) edge.1 (here (end_retained c.p c.items frame.func)) in
     ap (call_goes_on c.p c.input c.ways) ran ∙ ap (λ (place : Next). goes_to c.p c.input place s') (c.goes.end frame.func looks node' (ahead end met))
 
 unread : (c : Stage) (g : FuncId) (k : NodeId) (value : Option Operand) → node_at c.p g k ≡ node.Ret value → c.items (Keep g k) ≡ false → Unread c g

@@ -1,9 +1,8 @@
 -- One call and its residual call, step by step.
-use Rattle.std.specs.Prelude.{slice_get, slice_set, unwrap_or, map}
-use Rattle.std.proofs.Common.{◌≡◌, ◌∙◌, ◌&&◌, ℕ, zero, suc, Bool, true, false, not, List, [], ◌∷◌, ◌++◌, Option, Some, None, refl, sym, ap, subst, ◌⊎◌, ⊎_elim}
-use Rattle.std.specs.List.{Contains, filter, AllByRecursion as Each}
+use Rattle.std.specs.Prelude.{slice_get, unwrap_or}
+use Rattle.std.proofs.Common.{◌≡◌, ◌∙◌, ◌&&◌, ℕ, true, false, not, List, [], ◌∷◌, Option, Some, None, refl, sym, ap, subst}
+use Rattle.std.specs.List.{Contains, AllByRecursion as Each}
 use Rattle.std.proofs.lemmas.List.Elements.{All-contains, All-from_recursion}
-use Rattle.control_closure.specs.Met.{here, beyond}
 use Rattle.flat_ir.specs.declared.names.FuncId.{FuncId}
 use Rattle.flat_ir.specs.declared.names.NodeId.{NodeId}
 use Rattle.flat_ir.specs.declared.names.RegId.{RegId}
@@ -16,34 +15,31 @@ use Rattle.flat_ir.specs.declared.nodes.Node.TheVariants as node
 use Rattle.flat_ir.specs.declared.nodes.Operand.{Operand}
 use Rattle.flat_ir.specs.declared.nodes.Operand.TheVariants as operand
 use Rattle.flat_ir.specs.declared.program.ProgramData.{ProgramData}
-use Rattle.flat_ir.specs.declared.residual.Next.{Next}
-use Rattle.flat_ir.specs.declared.residual.Next.TheVariants as next
 use Rattle.flat_ir.specs.declared.values.ConcreteValue.{ConcreteValue}
 use Rattle.flat_ir.specs.declared.values.ConcreteValue.TheVariants.{Ptr}
-use Rattle.flat_ir.specs.History.{History, Change, site_of, is_alive, size_of, position}
+use Rattle.flat_ir.specs.History.{History, site_of, is_alive}
 use Rattle.flat_ir.specs.Orderly.{is_made, is_freed}
 use Rattle.flat_ir.specs.Registers.{null}
-use Rattle.flat_ir.specs.Machine.{Event, Frame, State, Run, On, Over, node_at, value_in, count_here, counted, at_node}
+use Rattle.flat_ir.specs.Machine.{Frame, State, Run, On, Over, node_at, value_in, count_here, counted}
 use Rattle.flat_ir.specs.Steps.{attempt, with_frame, address_in}
-use Rattle.flat_ir.specs.Run.{step, step-attempt}
-use Rattle.flat_ir.specs.Whole.{IsWhole, operands_of, results_of, successors_of}
+use Rattle.flat_ir.specs.Whole.{IsWhole, operands_of, results_of}
 use Rattle.points_to.specs.Asked.{holder_in}
 use Rattle.points_to.specs.Points.{PointsTo}
 use Rattle.points_to.specs.Within.{BaseWithin, PointsWithin, FrameWithin, IsWithin, RunWithin}
 use Rattle.points_to.proofs.Containing.{node_reads}
-use Rattle.points_to.proofs.RunsWithin.{address_within, operands_within, step_within}
+use Rattle.points_to.proofs.RunsWithin.{address_within, operands_within}
 use Rattle.mod_ref.specs.Changes.{ChangesAt, location_of}
-use Rattle.slices.specs.Nodes.{Reads, Defines, read_through, used_alive, reads_input}
-use Rattle.slices.specs.Slice.{Items, Keep, Need, Looks, end_of}
+use Rattle.slices.specs.Nodes.{read_through, used_alive, reads_input}
+use Rattle.slices.specs.Slice.{Items, Keep, Need, Looks}
 use Rattle.slices.specs.SliceFacts.{SliceFacts, GoesWhereMet}
 use Rattle.slices.specs.Nexts.{Ways}
-use Rattle.slice_laws.specs.ResidualRun.{CallRun, Runs, Ends, Breaks, lifted, executes, goes_to, call_step, call_goes_on, call_run}
+use Rattle.slice_laws.specs.ResidualRun.{CallRun, Runs, Ends, Breaks, lifted, call_run}
 use Rattle.slice_laws.specs.Simulation.{Agree}
 use Rattle.slice_laws.proofs.Lists.{not_both, filter_none, none_in, first, later, each_from}
 use Rattle.slice_laws.proofs.Histories.{is_needed, Grew, grow, still_agree}
-use Rattle.slice_laws.proofs.Outcomes.{moved_to, Did, did, RunDid, IsAt, is_plain, attempt_did}
-use Rattle.slice_laws.proofs.Likewise.{SameLife, SameBytes, SeesSame, Likewise, likewise, RunsLikewise, attempt_likewise}
-use Rattle.slice_laws.proofs.Frames.{IsRead, Alike, twin, IsAhead, IsQuiet, Waiting, Shows, level, hidden, plain_edge, shows_looks, shows_moved, shows_counted, alike_counted, is_retained}
+use Rattle.slice_laws.proofs.Outcomes.{Did, did, RunDid, is_plain, attempt_did}
+use Rattle.slice_laws.proofs.Likewise.{SameLife, SameBytes, SeesSame}
+use Rattle.slice_laws.proofs.Frames.{IsRead, Alike, twin, Shows, plain_edge, shows_looks, shows_moved, shows_counted}
 use Rattle.slice_laws.proofs.Frees.{not_needed}
 
 -- a call of a function from a history, and the residual one from another
@@ -188,8 +184,8 @@ sees_same c s s' regs' counts' x at kept within alike is grew =
     let n = s.frame.node in
     let reads : Each (λ a. PointsWithin c.p (holder_in g a) (value_in s.frame a)) (operands_of x) = reads_each c.p s.frame x c.program within at in
     let base : (a : Operand) → Contains (operands_of x) a → BaseWithin c.p (holder_in g a) (address_in s a).base =
-        λ a there. address_within c.p (holder_in g a) (value_in s.frame a)
-        (All-contains (λ (b : Operand). PointsWithin c.p (holder_in g b) (value_in s.frame b)) (operands_of x) a (All-from_recursion (λ (b : Operand). PointsWithin c.p (holder_in g b) (value_in s.frame b)) (operands_of x) reads) there) in
+    λ a there. address_within c.p (holder_in g a) (value_in s.frame a)
+    (All-contains (λ (b : Operand). PointsWithin c.p (holder_in g b) (value_in s.frame b)) (operands_of x) a (All-from_recursion (λ (b : Operand). PointsWithin c.p (holder_in g b) (value_in s.frame b)) (operands_of x) reads) there) in
     let agree = still_agree c.p c.items c.h c.h' s.history s'.history c.agree grew in
     record {
       func = ap (λ (fr : Frame). fr.func) is;
