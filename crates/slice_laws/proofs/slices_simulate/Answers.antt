@@ -1,0 +1,5 @@
+use Rattle.slice_laws.proofs.Simulating.{simulates}
+use Rattle.slice_laws.proofs.slices_simulate.Goals as goal
+
+pub returns : goal.returns
+returns c = simulates

@@ -1,0 +1,2 @@
+pub mod ResidualRun
+pub mod Simulation
