@@ -1,0 +1,4 @@
+pub mod Checked
+pub mod Runs
+pub mod Types
+pub mod Values
