@@ -1,7 +1,8 @@
--- Numbers that fit, in the states of a run: each is below 2 to its width, each byte below 256, and each offset below 2 ^ 64
--- (LLVM Language Reference, "Integer Type"; "Pointer Type", at 64 bits).
-use Rattle.std.specs.Prelude.{ℕ, ◌<◌, ◌^◌, List, [], ◌∷◌, All}
+-- Numbers that fit, in the states of a run: each has 1 to 64 bits and is below 2 to its width, each byte is below 256, and each
+-- offset below 2 ^ 64 (LLVM Language Reference, "Integer Type"; "Pointer Type", at 64 bits).
+use Rattle.std.specs.Prelude.{◌<◌, ◌^◌, List, [], ◌∷◌, All}
 use Rattle.std.specs.List.{AllByRecursion as Each}
+use Rattle.bitnum.specs.Number.{IsNumber}
 use Rattle.flat_ir.specs.declared.nodes.Operand.{Operand}
 use Rattle.flat_ir.specs.declared.nodes.Operand.TheVariants as operand
 use Rattle.flat_ir.specs.declared.program.InitByte.{InitByte}
@@ -17,7 +18,7 @@ use Rattle.flat_ir.specs.Whole.{operands_of}
 
 -- a number that is below 2 to its width, or an address whose offset has 64 bits
 abbrev pub Fits : ConcreteValue → Type 0
-Fits (Int n) = n.bits < 2 ^ n.width
+Fits (Int n) = IsNumber n
 Fits (Ptr a) = a.offset < 2 ^ 64
 
 -- a number of 8 bits, or one of the eight bytes of such an address
@@ -28,7 +29,7 @@ FitsByte (byte.PtrByte a j) = (a.offset < 2 ^ 64) × (j < 8)
 -- what is written as an operand fits
 abbrev pub OperandFits : Operand → Type 0
 OperandFits (operand.Reg r) = Unit {0}
-OperandFits (operand.Int n) = n.bits < 2 ^ n.width
+OperandFits (operand.Int n) = IsNumber n
 OperandFits operand.Null = Unit {0}
 OperandFits (operand.Global g offset) = offset < 2 ^ 64
 
