@@ -33,6 +33,7 @@ use Rattle.flat_ir.proofs.MadeBasics.{both}
 use Rattle.flat_ir.proofs.MadeKept.{with_place}
 use Rattle.typed_runs.specs.TypedRuns.{HasType, HaveTypes, HoldsTypes, IsCallOf, WaitAtCalls, AreTyped, IsTyped, RunIsTyped}
 use Rattle.typed_runs.specs.Suiting.{result_of}
+use Rattle.typed_runs.specs.Laws.{StepsKeepTypes}
 use Rattle.typed_runs.proofs.Checked.{node_typed}
 use Rattle.typed_runs.proofs.Types.{all_three, of_same, have_set, zeros_have, operand_is, as_wide, args_have}
 use Rattle.typed_runs.proofs.Values.{OptionHas, IsGiven, cast_has, joined_has, given, call_sets}
@@ -209,19 +210,23 @@ attempt_typed p input node.Abort s ready = tt
 attempt_typed p input (node.Assert args) s ready = tt
 attempt_typed p input node.Unreachable s ready = tt
 
+-- the node at which a typed state stands is ready once it is counted
+pub ready_for : (p : ProgramData) (s : State) → IsChecked p.funcs → IsTyped p s → IsReady p (node_at p s.frame.func s.frame.node) (with_frame (counted s.frame) s)
+ready_for p s checked typed = record {
+  checked = checked;
+  typed = record {
+    frame = typed.frame;
+    callers = typed.callers;
+    calls = waits_as p s.frame (counted s.frame) s.callers refl typed.calls;
+  };
+  at = refl;
+  node = node_typed p s.frame.func s.frame.node checked;
+}
+
 -- a step from a typed state leads to one
-pub step_typed : (p : ProgramData) (input : List ℕ) (s : State) → IsChecked p.funcs → IsTyped p s → RunIsTyped p (step p input s)
+pub step_typed : StepsKeepTypes
 step_typed p input s checked typed =
-    rw (step-attempt p input s) (attempt_typed p input (node_at p s.frame.func s.frame.node) (with_frame (counted s.frame) s) (record {
-      checked = checked;
-      typed = record {
-        frame = typed.frame;
-        callers = typed.callers;
-        calls = waits_as p s.frame (counted s.frame) s.callers refl typed.calls;
-      };
-      at = refl;
-      node = node_typed p s.frame.func s.frame.node checked;
-    }))
+    rw (step-attempt p input s) (attempt_typed p input (node_at p s.frame.func s.frame.node) (with_frame (counted s.frame) s) (ready_for p s checked typed))
 
 -- main's first state is typed
 pub start_typed : (p : ProgramData) → IsTyped p (start p)

@@ -29,7 +29,7 @@ use Rattle.typed_runs.proofs.Checked.{node_typed}
 use Rattle.typed_runs.proofs.Types.{all_three, of_same, operand_has, operand_is}
 
 -- a register's type has a width
-func_widths : (globals funcs : ℕ) (fs : List Func) (k : ℕ) → Each (IsFuncOf globals funcs) fs → Each IsWidth (regs_of (slice_get fs k))
+pub func_widths : (globals funcs : ℕ) (fs : List Func) (k : ℕ) → Each (IsFuncOf globals funcs) fs → Each IsWidth (regs_of (slice_get fs k))
 func_widths globals funcs [] k all = tt
 func_widths globals funcs (f ∷ fs) zero all = recursion_from_All IsWidth f.regs all.0.widths
 func_widths globals funcs (f ∷ fs) (suc k) all = func_widths globals funcs fs k all.1

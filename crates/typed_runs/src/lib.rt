@@ -2,7 +2,7 @@
 //! functions state the laws.
 #![tactic(auto)]
 
-ghost use Rattle.typed_runs.specs.Laws.{NodesAreTyped, OperandsAreTyped, RunsAreTyped, StepsKeepTypes, TypedFramesSuit};
+ghost use Rattle.typed_runs.specs.Laws.{NodesAreTyped, OperandsAreTyped, RunsAreTyped, RunsFit, StepsKeepFitting, StepsKeepTypes, TypedFramesSuit};
 
 /// Where no condition fails in a program, each state of each of its runs is typed.
 pub fn runs_are_typed()
@@ -27,4 +27,14 @@ pub fn operands_are_typed()
 /// What a typed frame holds suits the node at which it stands.
 pub fn typed_frames_suit()
     ensures { TypedFramesSuit }
+{}
+
+/// Each number in each state of a run fits its width, where those of the program and of the input do.
+pub fn runs_fit()
+    ensures { RunsFit }
+{}
+
+/// A step from any such state leads to one, or the run is over.
+pub fn steps_keep_fitting()
+    ensures { StepsKeepFitting }
 {}
