@@ -1,0 +1,4 @@
+pub mod FittingRuns
+pub mod Laws
+pub mod Suiting
+pub mod TypedRuns

@@ -1,0 +1,40 @@
+//! In each run of a program that passed its checks, each register holds a value of its type. There is no code here: its
+//! functions state the laws.
+#![tactic(auto)]
+
+ghost use Rattle.typed_runs.specs.Laws.{NodesAreTyped, OperandsAreTyped, RunsAreTyped, RunsFit, StepsKeepFitting, StepsKeepTypes, TypedFramesSuit};
+
+/// Where no condition fails in a program, each state of each of its runs is typed.
+pub fn runs_are_typed()
+    ensures { RunsAreTyped }
+{}
+
+/// A step from any typed state of such a program leads to a typed one, or the run is over.
+pub fn steps_keep_types()
+    ensures { StepsKeepTypes }
+{}
+
+/// Its nodes have the types that they need, whatever function and node is named.
+pub fn nodes_are_typed()
+    ensures { NodesAreTyped }
+{}
+
+/// An operand in a typed frame has a value of its type.
+pub fn operands_are_typed()
+    ensures { OperandsAreTyped }
+{}
+
+/// What a typed frame holds suits the node at which it stands.
+pub fn typed_frames_suit()
+    ensures { TypedFramesSuit }
+{}
+
+/// Each number in each state of a run fits its width, where those of the program and of the input do.
+pub fn runs_fit()
+    ensures { RunsFit }
+{}
+
+/// A step from any such state leads to one, or the run is over.
+pub fn steps_keep_fitting()
+    ensures { StepsKeepFitting }
+{}
