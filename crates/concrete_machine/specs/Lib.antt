@@ -1,1 +1,4 @@
 pub mod Running
+pub mod Frames
+pub mod Standing
+pub mod Suiting
