@@ -43,3 +43,15 @@ pub leads_fault : (p : ProgramData) (input : List ℕ) (old new : Machine) (test
 leads_fault p input old new test kind h events r fails remembers frame output =
     subst (λ (o : Option FaultKind). Leads p input new (Faulted kind) (unless o (state_at old h events) r)) (sym fails)
     (ap (λ (f : Frame). run.Faulted kind f.func f.node) frame, output ∙ remembers.output)
+
+-- where more than the newest frame is another: what is remembered, and then the frame
+pub stands_moved : (p : ProgramData) (input : List ℕ) (old m new : Machine) (f : run.Frame) (h : History) (events : List Event)
+    → Remembers p input m h → m.callers ≡ old.callers → TurnsTo m new f
+    → StandsAt p input new (record { frame = f; callers = callers_of old; history = h; events = events })
+stands_moved p input old m new f h events remembers callers turns =
+    let stands = stands_turned p input m new f h events remembers turns in
+    record {
+      frame = stands.frame;
+      callers = stands.callers ∙ ap (λ (c : Vec Frame Global). reverse (map frame_of c.items)) callers;
+      remembers = stands.remembers;
+    }

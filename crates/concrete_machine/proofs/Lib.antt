@@ -1,2 +1,4 @@
 pub mod Leading
 pub mod Numbered
+pub mod Controlled
+pub mod Written

@@ -1,6 +1,6 @@
 -- Tests of divisions, and widths.
 use Rattle.std.specs.Prelude.{◌+◌, ◌-◌, ◌^◌, ◌<◌, ◌≤◌, nat_lt, ◌==◌, if◌then◌else◌}
-use Rattle.std.proofs.Common.{◌≡◌, ℕ, Bool, true, false, ◌&&◌, ◌||◌, Option, Some, None, IsSome, refl, sym, ◌∙◌, ap, subst}
+use Rattle.std.proofs.Common.{◌≡◌, ℕ, Bool, true, false, ◌&&◌, ◌||◌, Option, Some, None, refl, sym, ◌∙◌, ap, subst}
 use Rattle.bitnum.specs.Number.{Number}
 use Rattle.bitnum.specs.Operations.{applied, divided}
 use Rattle.bitnum.specs.declared.BinOp.TheVariants.{Sdiv}
@@ -15,9 +15,9 @@ overflows a b nonzero none = rw nonzero (by_test ((a.bits == 2 ^ (a.width - 1)) 
     by_test true e = refl
     by_test false e = cc
 
-pub divides : (a b : Number) → (b.bits == 0) ≡ false → IsSome (divided Sdiv a b) → by_zero_or_overflow a b ≡ None
-divides a b nonzero some = rw nonzero (by_test ((a.bits == 2 ^ (a.width - 1)) && (b.bits == 2 ^ b.width - 1)) (rw nonzero at some))
+pub divides : (a b q : Number) → (b.bits == 0) ≡ false → divided Sdiv a b ≡ Some q → by_zero_or_overflow a b ≡ None
+divides a b q nonzero some = rw nonzero (by_test ((a.bits == 2 ^ (a.width - 1)) && (b.bits == 2 ^ b.width - 1)) (rw nonzero at some))
   where
-    by_test : (t : Bool) → IsSome (if (false || (true && t)) then None else Some (applied Sdiv a b)) → (if t then Some fault.DivideOverflow else None) ≡ None
-    by_test true e = absurd e
+    by_test : (t : Bool) → (if (false || (true && t)) then None else Some (applied Sdiv a b)) ≡ Some q → (if t then Some fault.DivideOverflow else None) ≡ None
+    by_test true e = cc
     by_test false e = refl

@@ -1,4 +1,6 @@
 pub mod Running
 pub mod Frames
 pub mod Standing
+pub mod Control
+pub mod Making
 pub mod Suiting

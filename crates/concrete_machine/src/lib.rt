@@ -1,8 +1,10 @@
 //! The concrete machine: it runs a program on an input, node by node.
 #![tactic(auto)]
 
+mod control;
 mod frames;
 mod machine;
+mod memory;
 mod numbers;
 mod running;
 mod turns;
