@@ -1,4 +1,7 @@
+pub mod Controlled
+pub mod Ended
 pub mod Leading
 pub mod Numbered
-pub mod Controlled
+pub mod TypedRuns
+pub mod TypedValues
 pub mod Written

@@ -3,4 +3,6 @@ pub mod Frames
 pub mod Standing
 pub mod Control
 pub mod Making
+pub mod Ending
 pub mod Suiting
+pub mod Typing
