@@ -1,1 +1,8 @@
 pub mod Running
+pub mod Frames
+pub mod Standing
+pub mod Control
+pub mod Making
+pub mod Ending
+pub mod Suiting
+pub mod Typing
