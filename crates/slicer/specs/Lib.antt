@@ -1,1 +1,6 @@
 pub mod Locations
+pub mod Links
+pub mod Reached
+pub mod ReachedLaws
+pub mod Places
+pub mod Facts
