@@ -208,3 +208,6 @@ one_mark p starts laid m m' k e e' =
     let at' : s.at ≡ s'.at = omega (arith, same.0, ap (start starts) row) in
     let kind : s.kind ≡ s'.kind = same.1 in
     sym (mark_is p m) ∙ ap (λ (j : ℕ). mark_at j s.row s.at) kind ∙ ap (λ (j : ℕ). mark_at s'.kind j s.at) row ∙ ap (λ (j : ℕ). mark_at s'.kind s'.row j) at' ∙ mark_is p m'
+
+pub start_at_end : (xs : List ℕ) (k t : ℕ) → length xs ≡ k → start (xs ++ t ∷ []) k ≡ t
+start_at_end xs k t e = start_new xs t k (sym e)

@@ -4,3 +4,4 @@ pub mod Reached
 pub mod ReachedLaws
 pub mod Places
 pub mod Facts
+pub mod Calls

@@ -2,6 +2,7 @@
 #![tactic(auto)]
 
 mod linking;
+mod looking;
 mod marks;
 mod nodes;
 mod places;

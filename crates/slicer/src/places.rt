@@ -123,6 +123,14 @@ fn larger(a: usize, b: usize) -> usize
     if a < b { b } else { a }
 }
 
+/// How many places a function needs.
+fn width(func: &Func) -> usize
+    ensures nodes { length func.now.nodes ≤ result }
+    ensures registers { length func.now.regs ≤ result }
+{
+    larger(func.nodes.len(), func.regs.len())
+}
+
 /// Where the rows start.
 fn starts(alloc: Global, program: &ProgramData) -> Result<Vec<usize>, AllocError>
     requires { IsWhole program.now }
@@ -133,7 +141,7 @@ fn starts(alloc: Global, program: &ProgramData) -> Result<Vec<usize>, AllocError
     starts.push(total)?;
     let funcs = program.funcs.as_slice();
     'each: for f in 0..funcs.len() {
-        total = sum(total, larger(funcs[f].nodes.len(), funcs[f].regs.len()))?;
+        total = sum(total, width(&funcs[f]))?;
         starts.push(total)?;
     }
     total = sum(total, program.globals.len())?;
