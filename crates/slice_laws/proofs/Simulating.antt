@@ -43,8 +43,12 @@ use Rattle.slice_laws.proofs.Returning.{silent_return, kept_return}
 -- ---- one step of the whole call
 
 -- the state of the whole run, as its parts
-abbrev state : Frame → List Frame → History → List Event → State
+abbrev pub state : Frame → List Frame → History → List Event → State
 state frame callers h events = record { frame = frame; callers = callers; history = h; events = events }
+
+pub plain_executes : (p : ProgramData) (input : List ℕ) (y : Node) (t : State) → is_plain y ≡ true → executes p input y t ≡ lifted (attempt p input y t)
+plain_executes p input (node.Ret value) t e = absurd (cc)
+plain_executes p input _ t e = refl
 
 kept_plain : (c : Stage) (frame frame' : Frame) (rest rest' : List Frame) (h : History) (events : List Event) (h' : History) (events' : List Event) (steps : ℕ) (x : Node) → Shows c.p c.f c.items frame rest frame' rest'
     → node_at c.p frame.func frame.node ≡ x → is_plain x ≡ true → c.items (Keep frame.func frame.node) ≡ true → frame.node.0 < end_of c.p frame.func → Grew c.items c.h c.h' h h' → IsWithin c.p (state frame rest h events)
@@ -57,10 +61,6 @@ kept_plain c _ _ _ _ h events h' events' steps x (level frame rest node' regs' c
     kept_follows c (counted frame) rest rest' h events regs' (counted' frame counts') h' events' steps (attempt c.p c.input x s) (attempt c.p c.input x s') looks alike2 waiting grew
     (attempt_likewise c.p c.input x s s' plain (sees_same c s s' regs' (counted' frame counts') x at kept inside.registers alike2 refl grew)) within
     (residual_executes c frame rest' node' regs' counts' h' events' steps looks kept lt ahead ran ∙ ap (λ (y : Node). executes c.p c.input y s') at ∙ plain_executes c.p c.input x s' plain)
-  where
-    plain_executes : (p : ProgramData) (input : List ℕ) (y : Node) (t : State) → is_plain y ≡ true → executes p input y t ≡ lifted (attempt p input y t)
-    plain_executes p input (node.Ret value) t e = absurd (cc)
-    plain_executes p input _ t e = refl
 
 plain_follows : (c : Stage) (s : State) (x : Node) → node_at c.p s.frame.func s.frame.node ≡ x → is_plain x ≡ true → Beside c s → RunWithin c.p (attempt c.p c.input x (with_frame (counted s.frame) s))
     → Follows c (lifted (attempt c.p c.input x (with_frame (counted s.frame) s)))

@@ -1,2 +1,3 @@
 pub mod ResidualRun
 pub mod Simulation
+pub mod CallsInRuns

@@ -1,9 +1,20 @@
 //! A slice simulates its call.
 #![tactic(auto)]
 
+ghost use Rattle.slice_laws.specs.CallsInRuns.{CallsStandAlone, SlicesSimulateInRuns};
 ghost use Rattle.slice_laws.specs.Simulation.{SlicesSimulate};
 
 /// Where a call ends, the residual run of its slice ends too, with the call's changes in the location.
 pub fn slices_simulate()
     ensures { SlicesSimulate }
+{}
+
+/// A call in a run gives and adds what it does alone.
+pub fn calls_stand_alone()
+    ensures { CallsStandAlone }
+{}
+
+/// So the slice of a call simulates what the call does in a run.
+pub fn slices_simulate_in_runs()
+    ensures { SlicesSimulateInRuns }
 {}
