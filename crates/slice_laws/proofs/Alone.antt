@@ -1,5 +1,5 @@
 -- A call in a run is the call alone.
-use Rattle.std.specs.Prelude.{slice_get, reverse}
+use Rattle.std.specs.Prelude.{reverse}
 use Rattle.std.specs.Option.{option_map}
 use Rattle.std.proofs.Common.{◌≡◌, ◌≤◌, ◌∙◌, ◌⊎◌, ⊎_elim, inl, inr, ℕ, zero, suc, true, List, [], ◌∷◌, ◌++◌, length, Option, Some, None, refl, sym, ap, subst, arith, append_assoc}
 use Rattle.flat_ir.specs.declared.names.CallStep.{CallStep}
@@ -24,19 +24,9 @@ use Rattle.slices.specs.Nexts.{Ways, AreNexts}
 use Rattle.slice_laws.specs.ResidualRun.{whole, Runs, Ends, lifted, executes, call_goes_on, call_run, called}
 use Rattle.slice_laws.specs.Simulation.{Agree}
 use Rattle.slice_laws.specs.CallsInRuns.{IsCall, EndsAlone, IsSimulatedInRun}
-use Rattle.slice_laws.proofs.Lists.{each_from}
+use Rattle.slice_laws.proofs.Lists.{each_from, same_elements}
 use Rattle.slice_laws.proofs.Likewise.{SameLife, SameBytes, SeesSame, likewise, RunsLikewise, attempt_likewise}
 use Rattle.slice_laws.proofs.Simulating.{state, plain_executes, simulates}
-
--- lists with the same elements at each place are one
-same_elements : {A : Type 0} (xs ys : List A) → ((k : ℕ) → slice_get xs k ≡ slice_get ys k) → xs ≡ ys
-same_elements [] [] e = refl
-same_elements [] (y ∷ ys) e = let none' = e zero in absurd (cc)
-same_elements (x ∷ xs) [] e = let none' = e zero in absurd (cc)
-same_elements (x ∷ xs) (y ∷ ys) e =
-    let head' = e zero in
-    let head : x ≡ y = cc in
-    λ i. head i ∷ same_elements xs ys (λ k. e (suc k)) i
 
 life_same : (p : ProgramData) (b : Option ObjectName) (h : History) → SameLife p b h h
 life_same p None h = tt

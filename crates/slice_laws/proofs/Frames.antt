@@ -83,7 +83,7 @@ pub plain_edge : (p : ProgramData) (g : FuncId) (n : NodeId) (x : Node) (next : 
 plain_edge p g n x next at plain leads =
     edge_at p g n x next.0 at (subst (λ (ks : List ℕ). Contains ks next.0) (sym (plain_leads (end_of p g) x plain)) (Contains-map (λ (s : NodeId). s.0) (successors_of x) next leads))
 
-apart_end : (n end : ℕ) → n < end → (n == end) ≡ false
+pub apart_end : (n end : ℕ) → n < end → (n == end) ≡ false
 apart_end n end lt = elim (n == end) as (λ t. n == end ≡ t → t ≡ false) [
   | true ↦ λ e. let same : n ≡ end = eqb-true n end e in absurd (omega (arith, lt))
   | false ↦ λ e. refl

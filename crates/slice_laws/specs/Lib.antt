@@ -1,3 +1,4 @@
 pub mod ResidualRun
 pub mod Simulation
 pub mod CallsInRuns
+pub mod OneSlice

@@ -2,6 +2,7 @@
 #![tactic(auto)]
 
 ghost use Rattle.slice_laws.specs.CallsInRuns.{CallsStandAlone, SlicesSimulateInRuns};
+ghost use Rattle.slice_laws.specs.OneSlice.{SlicesAreOne};
 ghost use Rattle.slice_laws.specs.Simulation.{SlicesSimulate};
 
 /// Where a call ends, the residual run of its slice ends too, with the call's changes in the location.
@@ -17,4 +18,9 @@ pub fn calls_stand_alone()
 /// So the slice of a call simulates what the call does in a run.
 pub fn slices_simulate_in_runs()
     ensures { SlicesSimulateInRuns }
+{}
+
+/// A function has one slice for a location.
+pub fn slices_are_one()
+    ensures { SlicesAreOne }
 {}
