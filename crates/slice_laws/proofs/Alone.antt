@@ -26,7 +26,8 @@ use Rattle.slice_laws.specs.Simulation.{Agree}
 use Rattle.slice_laws.specs.CallsInRuns.{IsCall, EndsAlone, IsSimulatedInRun}
 use Rattle.slice_laws.proofs.Lists.{each_from, same_elements}
 use Rattle.slice_laws.proofs.Likewise.{SameLife, SameBytes, SeesSame, likewise, RunsLikewise, attempt_likewise}
-use Rattle.slice_laws.proofs.Simulating.{state, plain_executes, simulates}
+use Rattle.slice_laws.proofs.Following.{simulates}
+use Rattle.slice_laws.proofs.Simulating.{state, plain_executes}
 
 life_same : (p : ProgramData) (b : Option ObjectName) (h : History) → SameLife p b h h
 life_same p None h = tt

@@ -2,12 +2,18 @@
 #![tactic(auto)]
 
 ghost use Rattle.slice_laws.specs.CallsInRuns.{CallsStandAlone, SlicesSimulateInRuns};
+ghost use Rattle.slice_laws.specs.Moments.{ResidualStatesAgree};
 ghost use Rattle.slice_laws.specs.OneSlice.{SlicesAreOne};
 ghost use Rattle.slice_laws.specs.Simulation.{SlicesSimulate};
 
 /// Where a call ends, the residual run of its slice ends too, with the call's changes in the location.
 pub fn slices_simulate()
     ensures { SlicesSimulate }
+{}
+
+/// On the way there each state of the residual run agrees with the call, at some moment, on what the slice reads and needs.
+pub fn residual_states_agree()
+    ensures { ResidualStatesAgree }
 {}
 
 /// A call in a run gives and adds what it does alone.
