@@ -88,7 +88,6 @@ returns_follow c _ _ _ v v' s s' steps few none calls grew either only within ra
 returns_follow c _ _ _ v v' s s' steps few (both g frame regs' counts' rest rest' looks alike kept waiting) calls grew either only within ran =
     let call = node_at c.p frame.func frame.node in
     let there : Frame = record frame { regs = result_regs (call_result call) v frame.regs; node = call_next call } in
-    let there' : Frame = twin there (call_next call) (result_regs (call_result call) v' regs') counts' in
     record {
       steps = steps;
       few = few;
