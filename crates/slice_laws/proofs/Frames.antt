@@ -16,15 +16,11 @@ use Rattle.flat_ir.specs.declared.values.ConcreteValue.{ConcreteValue}
 use Rattle.flat_ir.specs.Machine.{Frame, nodes_of, func_at, node_at, count_here, counted}
 use Rattle.flat_ir.specs.Whole.{successors_of}
 use Rattle.points_to.specs.Within.{callee_of}
-use Rattle.slices.specs.Nodes.{Reads}
 use Rattle.slices.specs.SliceFacts.{SliceFacts}
 use Rattle.slices.specs.Slice.{Items, Keep, Looks, calls, end_of, leads_to, graph_of, retained}
+use Rattle.slice_laws.specs.Moments.{IsRead, IsQuiet}
 use Rattle.slice_laws.proofs.Lists.{true_or_false, not_both, set_apart, set_both, row_at, none_in, Contains-map}
 use Rattle.slice_laws.proofs.Outcomes.{is_plain}
-
--- a retained node reads the register
-abbrev pub IsRead : ProgramData → Items → FuncId → RegId → Type 0
-IsRead p items g r = (n : NodeId) × (items (Keep g n) ≡ true) × Reads p g n r
 
 -- the registers that retained nodes read and the counts of retained nodes are a frame's
 pub record Alike (p : ProgramData) (items : Items) (frame : Frame) (regs' : List ConcreteValue) (counts' : List ℕ) : Type 0 where
@@ -41,10 +37,6 @@ MeetsIn p items g n m = Meets (graph_of p g) (retained p g items) n m
 -- what may be met first from one node may be so from the other
 abbrev pub IsAhead : ProgramData → Items → FuncId → NodeId → NodeId → Type 0
 IsAhead p items g n n' = (m : ℕ) → MeetsIn p items g n.0 m → MeetsIn p items g n'.0 m
-
--- no node of the function is retained
-abbrev pub IsQuiet : Items → FuncId → Type 0
-IsQuiet items g = (n : NodeId) → items (Keep g n) ≡ false
 
 -- the frames below one of a function, which wait for retained calls; the last of all is of the call's function
 pub data Waiting (p : ProgramData) (f : FuncId) (items : Items) : FuncId → List Frame → List Frame → Type 0 where
@@ -83,7 +75,7 @@ pub plain_edge : (p : ProgramData) (g : FuncId) (n : NodeId) (x : Node) (next : 
 plain_edge p g n x next at plain leads =
     edge_at p g n x next.0 at (subst (λ (ks : List ℕ). Contains ks next.0) (sym (plain_leads (end_of p g) x plain)) (Contains-map (λ (s : NodeId). s.0) (successors_of x) next leads))
 
-apart_end : (n end : ℕ) → n < end → (n == end) ≡ false
+pub apart_end : (n end : ℕ) → n < end → (n == end) ≡ false
 apart_end n end lt = elim (n == end) as (λ t. n == end ≡ t → t ≡ false) [
   | true ↦ λ e. let same : n ≡ end = eqb-true n end e in absurd (omega (arith, lt))
   | false ↦ λ e. refl

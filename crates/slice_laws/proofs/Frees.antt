@@ -22,7 +22,8 @@ use Rattle.slices.specs.Slice.{Items, Keep, Need, Looks}
 use Rattle.slices.specs.SliceFacts.{SliceFacts}
 use Rattle.slice_laws.proofs.Lists.{true_or_false, not_both, filter_none, filter_turned}
 use Rattle.slice_laws.proofs.Histories.{is_needed}
-use Rattle.slice_laws.proofs.Frames.{Alike, twin, IsQuiet}
+use Rattle.slice_laws.specs.Moments.{IsQuiet}
+use Rattle.slice_laws.proofs.Frames.{Alike, twin}
 
 -- what a node that isn't retained changes isn't needed
 pub not_needed : (p : ProgramData) (f : FuncId) (at' : Location) (items : Items) → SliceFacts p f at' items → (g : FuncId) (n : NodeId) (l : Location) → Looks p f g → items (Keep g n) ≡ false

@@ -1,6 +1,6 @@
 -- Retained nodes are executed by both runs.
 use Rattle.std.specs.Prelude.{slice_get, slice_set, unwrap_or, map}
-use Rattle.std.proofs.Common.{◌≡◌, ◌<◌, ◌∙◌, ◌+◌, ℕ, suc, true, List, [], ◌∷◌, Option, refl, sym, ap, subst}
+use Rattle.std.proofs.Common.{◌≡◌, ◌<◌, ◌≤◌, ◌∙◌, ◌+◌, ℕ, suc, true, List, [], ◌∷◌, Option, refl, sym, ap, subst}
 use Rattle.std.specs.List.{AllByRecursion as Each}
 use Rattle.control_closure.specs.Met.{here}
 use Rattle.flat_ir.specs.declared.names.FuncId.{FuncId}
@@ -38,13 +38,14 @@ residual_executes c frame rest' node' regs' counts' h' events' steps looks kept 
 -- ---- a node that is no call and no return
 
 pub kept_follows : (c : Stage) (frame : Frame) (rest rest' : List Frame) (h : History) (events : List Event) (regs' : List ConcreteValue) (counts' : List ℕ) (h' : History) (events' : List Event) (steps : ℕ) (r r' : Run)
-    → Looks c.p c.f frame.func → Alike c.p c.items frame regs' counts' → Waiting c.p c.f c.items frame.func rest rest' → Grew c.items c.h c.h' h h'
+    → suc steps ≤ c.most → Looks c.p c.f frame.func → Alike c.p c.items frame regs' counts' → Waiting c.p c.f c.items frame.func rest rest' → Grew c.items c.h c.h' h h'
     → RunsLikewise (record { frame = frame; callers = rest; history = h; events = events }) (record { frame = twin frame frame.node regs' counts'; callers = rest'; history = h'; events = events' }) r r'
     → RunWithin c.p r → residual c (suc steps) ≡ lifted r' → Follows c (lifted r)
-kept_follows c frame rest rest' h events regs' counts' h' events' steps (Over e t) r' looks alike waiting grew like within ran = tt
-kept_follows c frame rest rest' h events regs' counts' h' events' steps (On t) (Over e t') looks alike waiting grew like within ran = absurd like
-kept_follows c frame rest rest' h events regs' counts' h' events' steps (On _) (On _) looks alike waiting grew (likewise new new' next added ev ev' same) within ran = record {
+kept_follows c frame rest rest' h events regs' counts' h' events' steps (Over e t) r' room looks alike waiting grew like within ran = tt
+kept_follows c frame rest rest' h events regs' counts' h' events' steps (On t) (Over e t') room looks alike waiting grew like within ran = absurd like
+kept_follows c frame rest rest' h events regs' counts' h' events' steps (On _) (On _) room looks alike waiting grew (likewise new new' next added ev ev' same) within ran = record {
   steps = suc steps;
+  few = room;
   state = _;
   ran = ran;
   shows = level (record frame { regs = new; node = next }) rest next new' counts' rest' looks (record { regs = λ r read. same r (alike.regs r read); counts = alike.counts }) (λ m met. met) waiting;
@@ -64,19 +65,20 @@ entered_alike c s s' callee args result next same =
     values (a ∷ as') all = λ i. all.0 i ∷ values as' all.1 i
 
 pub kept_call : (c : Stage) (frame : Frame) (rest rest' : List Frame) (h : History) (events : List Event) (regs' : List ConcreteValue) (counts' : List ℕ) (h' : History) (events' : List Event) (steps : ℕ)
-    (callee : FuncId) (args : List Operand) (result : Option RegId) (next : NodeId) → node_at c.p frame.func frame.node ≡ node.Call callee args result next → c.items (Keep frame.func frame.node) ≡ true
+    (callee : FuncId) (args : List Operand) (result : Option RegId) (next : NodeId) → suc steps ≤ c.most → node_at c.p frame.func frame.node ≡ node.Call callee args result next → c.items (Keep frame.func frame.node) ≡ true
     → Looks c.p c.f frame.func → Alike c.p c.items frame regs' counts' → Waiting c.p c.f c.items frame.func rest rest' → Grew c.items c.h c.h' h h'
     → SeesSame c.p (node.Call callee args result next) (record { frame = frame; callers = rest; history = h; events = events }) (record { frame = twin frame frame.node regs' counts'; callers = rest'; history = h'; events = events' })
     → RunWithin c.p (calls c.p callee args (record { frame = frame; callers = rest; history = h; events = events }))
     → residual c (suc steps) ≡ lifted (calls c.p callee args (record { frame = twin frame frame.node regs' counts'; callers = rest'; history = h'; events = events' }))
     → Follows c (lifted (calls c.p callee args (record { frame = frame; callers = rest; history = h; events = events })))
-kept_call c frame rest rest' h events regs' counts' h' events' steps callee args result next at kept looks alike waiting grew same within ran =
+kept_call c frame rest rest' h events regs' counts' h' events' steps callee args result next room at kept looks alike waiting grew same within ran =
     let s : State = record { frame = frame; callers = rest; history = h; events = events } in
     let s' : State = record { frame = twin frame frame.node regs' counts'; callers = rest'; history = h'; events = events' } in
     let new = entered c.p callee (map (value_in s.frame) args) (step_here s.frame ∷ s.frame.name) in
     let ahead : IsAhead c.p c.items callee new.node new.node = λ m met. met in
     record {
       steps = suc steps;
+      few = room;
       state = _;
       ran = ran;
       shows = subst (λ (fr : Frame). Shows c.p c.f c.items new (frame ∷ rest) fr (s'.frame ∷ rest')) (sym (entered_alike c s s' callee args result next same))

@@ -95,3 +95,13 @@ later x y xs there = Contains-append_right (x ∷ []) xs y there
 pub each_from : {A : Type 0} (P : A → Type 0) (xs : List A) → ((x : A) → Contains xs x → P x) → Each P xs
 each_from P [] all = tt
 each_from P (x ∷ xs) all = (all x (first x xs), each_from P xs (λ y there. all y (later x y xs there)))
+
+-- lists with the same elements at each place are one
+pub same_elements : {A : Type 0} (xs ys : List A) → ((k : ℕ) → slice_get xs k ≡ slice_get ys k) → xs ≡ ys
+same_elements [] [] e = refl
+same_elements [] (y ∷ ys) e = let none' = e zero in absurd (cc)
+same_elements (x ∷ xs) [] e = let none' = e zero in absurd (cc)
+same_elements (x ∷ xs) (y ∷ ys) e =
+    let head' = e zero in
+    let head : x ≡ y = cc in
+    λ i. head i ∷ same_elements xs ys (λ k. e (suc k)) i

@@ -1,7 +1,7 @@
 -- Frames that end in both runs, or in the whole run alone.
 use Rattle.std.specs.Prelude.{slice_get, slice_set, reverse}
 use Rattle.std.specs.Option.{option_map}
-use Rattle.std.proofs.Common.{◌≡◌, ◌∙◌, ◌⊎◌, ⊎_elim, inl, inr, ℕ, suc, true, false, List, [], ◌∷◌, Option, Some, None, refl, sym, ap, subst}
+use Rattle.std.proofs.Common.{◌≡◌, ◌≤◌, ◌∙◌, ◌⊎◌, ⊎_elim, inl, inr, ℕ, suc, true, false, List, [], ◌∷◌, Option, Some, None, refl, sym, ap, subst, arith}
 use Rattle.std.specs.List.{Contains}
 use Rattle.control_closure.specs.Met.{here, beyond}
 use Rattle.flat_ir.specs.declared.names.FuncId.{FuncId}
@@ -24,7 +24,8 @@ use Rattle.slice_laws.specs.ResidualRun.{Runs, returns_to, frame_ends, goes_to, 
 use Rattle.slice_laws.proofs.Lists.{not_both, set_apart, set_both, first}
 use Rattle.slice_laws.proofs.Histories.{Grew, grow}
 use Rattle.slice_laws.proofs.Likewise.{SeesSame}
-use Rattle.slice_laws.proofs.Frames.{IsRead, Alike, twin, MeetsIn, IsAhead, Waiting, none, both, Shows, level, hidden, edge_at, end_retained, not_retained, shows_moved}
+use Rattle.slice_laws.specs.Moments.{IsRead}
+use Rattle.slice_laws.proofs.Frames.{Alike, twin, MeetsIn, IsAhead, Waiting, none, both, Shows, level, hidden, edge_at, end_retained, not_retained, shows_moved}
 use Rattle.slice_laws.proofs.Frees.{frees_alike, frees_quiet}
 use Rattle.slice_laws.proofs.Stages.{Stage, residual, Follows, sets_unread}
 
@@ -80,16 +81,16 @@ received_alike c frame regs' g v v' either calls r read e =
 
 -- ---- both frames end
 
-returns_follow : (c : Stage) (g : FuncId) (rest rest' : List Frame) (v v' : Option ConcreteValue) (s s' : State) (steps : ℕ) → Waiting c.p c.f c.items g rest rest' → AreCalls c.p g rest
+returns_follow : (c : Stage) (g : FuncId) (rest rest' : List Frame) (v v' : Option ConcreteValue) (s s' : State) (steps : ℕ) → steps ≤ c.most → Waiting c.p c.f c.items g rest rest' → AreCalls c.p g rest
     → Grew c.items c.h c.h' s.history s'.history → SameOrUnread c g v v' → (g ≡ c.f → c.at' ≡ location.Result → v' ≡ v) → RunWithin c.p (returns c.p v rest s)
     → residual c steps ≡ returns_to c.p v' rest' s' → Follows c (returns_to c.p v rest s)
-returns_follow c _ _ _ v v' s s' steps none calls grew either only within ran = record { steps = steps; result = v'; state = s'; ran = ran; grew = grew; same = only refl }
-returns_follow c _ _ _ v v' s s' steps (both g frame regs' counts' rest rest' looks alike kept waiting) calls grew either only within ran =
+returns_follow c _ _ _ v v' s s' steps few none calls grew either only within ran = record { steps = steps; few = few; result = v'; state = s'; ran = ran; grew = grew; same = only refl }
+returns_follow c _ _ _ v v' s s' steps few (both g frame regs' counts' rest rest' looks alike kept waiting) calls grew either only within ran =
     let call = node_at c.p frame.func frame.node in
     let there : Frame = record frame { regs = result_regs (call_result call) v frame.regs; node = call_next call } in
-    let there' : Frame = twin there (call_next call) (result_regs (call_result call) v' regs') counts' in
     record {
       steps = steps;
+      few = few;
       state = _;
       ran = ran;
       shows = subst (λ (fr : Frame). Shows c.p c.f c.items fr rest (resumed call v' (twin frame frame.node regs' counts')) rest') (sym (resumed_is call v frame))
@@ -140,22 +141,23 @@ unread c g k value at un =
     λ m n x calls gives read. not_both (c.items (Keep g k)) (c.facts.results m read.0 n g x k read.1 read.2 calls gives (ap is_return at)) un
 
 pub silent_return : (c : Stage) (frame frame' : Frame) (rest rest' : List Frame) (h : History) (events : List Event) (h' : History) (events' : List Event) (steps : ℕ) (value : Option Operand) (v : Option ConcreteValue)
-    → Shows c.p c.f c.items frame rest frame' rest' → node_at c.p frame.func frame.node ≡ node.Ret value → c.items (Keep frame.func frame.node) ≡ false → Grew c.items c.h c.h' h h' → AreCalls c.p frame.func rest
+    → suc steps ≤ c.most → Shows c.p c.f c.items frame rest frame' rest' → node_at c.p frame.func frame.node ≡ node.Ret value → c.items (Keep frame.func frame.node) ≡ false → Grew c.items c.h c.h' h h' → AreCalls c.p frame.func rest
     → RunWithin c.p (returns c.p v rest (ended c.p (record { frame = frame; callers = rest; history = h; events = events })))
     → residual c steps ≡ Runs (record { frame = frame'; callers = rest'; history = h'; events = events' })
     → Follows c (returns_to c.p v rest (ended c.p (record { frame = frame; callers = rest; history = h; events = events })))
-silent_return c _ _ _ _ h events h' events' steps value v (level frame rest node' regs' counts' rest' looks alike ahead waiting) at un grew calls within ran =
+silent_return c _ _ _ _ h events h' events' steps value v room (level frame rest node' regs' counts' rest' looks alike ahead waiting) at un grew calls within ran =
     let nodes = nodes_of (func_at c.p frame.func) in
     returns_follow c frame.func rest rest' v None (ended c.p (record { frame = frame; callers = rest; history = h; events = events }))
-    (ended c.p (record { frame = twin frame node' regs' counts'; callers = rest'; history = h'; events = events' })) (suc steps) waiting calls
+    (ended c.p (record { frame = twin frame node' regs' counts'; callers = rest'; history = h'; events = events' })) (suc steps) room waiting calls
     (grow c.items c.h c.h' h h' (reverse (frees_from frame 0 nodes)) (reverse (frees_from (twin frame node' regs' counts') 0 nodes)) grew
     (frees_alike c.p c.f c.at' c.items c.facts frame node' regs' counts' looks alike))
     (inr (refl, unread c frame.func frame.node value at un))
     (λ mine asks. not_both (c.items (Keep frame.func frame.node))
     (subst (λ (g : FuncId). c.items (Keep g frame.node) ≡ true) (sym mine) (c.facts.returns frame.node asks (subst (λ (g : FuncId). is_return (node_at c.p g frame.node) ≡ true) mine (ap is_return at)))) un)
     within (residual_ends c frame rest' node' regs' counts' h' events' steps value looks at un ahead ran)
-silent_return c _ _ _ _ h events h' events' steps value v (hidden quiet frame frame' rest rest' looks is_quiet below shows) at un grew calls within ran = record {
+silent_return c _ _ _ _ h events h' events' steps value v room (hidden quiet frame frame' rest rest' looks is_quiet below shows) at un grew calls within ran = record {
   steps = steps;
+  few = omega (arith, room);
   state = _;
   ran = ran;
   shows = hidden_return c frame frame' rest rest' quiet.func v calls.0 below shows;
@@ -170,18 +172,18 @@ value_same c s s' None same = refl
 value_same c s s' (Some a) same = ap Some same.values.0
 
 pub kept_return : (c : Stage) (frame : Frame) (rest rest' : List Frame) (h : History) (events : List Event) (regs' : List ConcreteValue) (counts' : List ℕ) (h' : History) (events' : List Event) (steps : ℕ) (value : Option Operand)
-    → Looks c.p c.f frame.func → Alike c.p c.items frame regs' counts' → Waiting c.p c.f c.items frame.func rest rest' → Grew c.items c.h c.h' h h' → AreCalls c.p frame.func rest
+    → suc steps ≤ c.most → Looks c.p c.f frame.func → Alike c.p c.items frame regs' counts' → Waiting c.p c.f c.items frame.func rest rest' → Grew c.items c.h c.h' h h' → AreCalls c.p frame.func rest
     → SeesSame c.p (node.Ret value) (record { frame = frame; callers = rest; history = h; events = events }) (record { frame = twin frame frame.node regs' counts'; callers = rest'; history = h'; events = events' })
     → RunWithin c.p (returns c.p (option_map (value_in frame) value) rest (ended c.p (record { frame = frame; callers = rest; history = h; events = events })))
     → residual c (suc steps) ≡ frame_ends c.p (option_map (value_in (twin frame frame.node regs' counts')) value) (record { frame = twin frame frame.node regs' counts'; callers = rest'; history = h'; events = events' })
     → Follows c (frame_ends c.p (option_map (value_in frame) value) (record { frame = frame; callers = rest; history = h; events = events }))
-kept_return c frame rest rest' h events regs' counts' h' events' steps value looks alike waiting grew calls same within ran =
+kept_return c frame rest rest' h events regs' counts' h' events' steps value room looks alike waiting grew calls same within ran =
     let nodes = nodes_of (func_at c.p frame.func) in
     let s : State = record { frame = frame; callers = rest; history = h; events = events } in
     let s' : State = record { frame = twin frame frame.node regs' counts'; callers = rest'; history = h'; events = events' } in
     let v = option_map (value_in s.frame) value in
     let v' = option_map (value_in s'.frame) value in
-    returns_follow c frame.func rest rest' v v' (ended c.p s) (ended c.p s') (suc steps) waiting calls
+    returns_follow c frame.func rest rest' v v' (ended c.p s) (ended c.p s') (suc steps) room waiting calls
     (grow c.items c.h c.h' h h' (reverse (frees_from frame 0 nodes)) (reverse (frees_from s'.frame 0 nodes)) grew
     (frees_alike c.p c.f c.at' c.items c.facts frame frame.node regs' counts' looks alike))
     (inl (value_same c s s' value same)) (λ mine asks. value_same c s s' value same) within ran

@@ -1,6 +1,6 @@
 -- One call and its residual call, step by step.
 use Rattle.std.specs.Prelude.{slice_get, unwrap_or}
-use Rattle.std.proofs.Common.{◌≡◌, ◌∙◌, ◌&&◌, ℕ, true, false, not, List, [], ◌∷◌, Option, Some, None, refl, sym, ap, subst}
+use Rattle.std.proofs.Common.{◌≡◌, ◌≤◌, ◌∙◌, ◌&&◌, ℕ, true, false, not, List, [], ◌∷◌, Option, Some, None, refl, sym, ap, subst}
 use Rattle.std.specs.List.{Contains, AllByRecursion as Each}
 use Rattle.std.proofs.lemmas.List.Elements.{All-contains, All-from_recursion}
 use Rattle.flat_ir.specs.declared.names.FuncId.{FuncId}
@@ -39,10 +39,11 @@ use Rattle.slice_laws.proofs.Lists.{not_both, filter_none, none_in, first, later
 use Rattle.slice_laws.proofs.Histories.{is_needed, Grew, grow, still_agree}
 use Rattle.slice_laws.proofs.Outcomes.{Did, did, RunDid, is_plain, attempt_did}
 use Rattle.slice_laws.proofs.Likewise.{SameLife, SameBytes, SeesSame}
-use Rattle.slice_laws.proofs.Frames.{IsRead, Alike, twin, Shows, plain_edge, shows_looks, shows_moved, shows_counted}
+use Rattle.slice_laws.specs.Moments.{IsRead}
+use Rattle.slice_laws.proofs.Frames.{Alike, twin, Shows, plain_edge, shows_looks, shows_moved, shows_counted}
 use Rattle.slice_laws.proofs.Frees.{not_needed}
 
--- a call of a function from a history, and the residual one from another
+-- a call of a function from a history, the residual one from another, and how many steps that may have made
 pub record Stage : Type 0 where
   pub p : ProgramData
   pub f : FuncId
@@ -53,6 +54,7 @@ pub record Stage : Type 0 where
   pub h : History
   pub h' : History
   pub from' : State
+  pub most : ℕ
   pub program : IsWhole p
   pub facts : SliceFacts p f at' items
   pub goes : GoesWhereMet p f items ways
@@ -65,6 +67,7 @@ residual c n = call_run c.p c.input c.ways c.from' n
 -- the residual run comes to a state that stands for one of the whole run
 pub record Beside (c : Stage) (t : State) : Type 0 where
   pub steps : ℕ
+  pub few : steps ≤ c.most
   pub state : State
   pub ran : residual c steps ≡ Runs state
   pub shows : Shows c.p c.f c.items t.frame t.callers state.frame state.callers
@@ -74,6 +77,7 @@ pub record Beside (c : Stage) (t : State) : Type 0 where
 -- it ends as the whole call does
 pub record Finished (c : Stage) (v : Option ConcreteValue) (t : State) : Type 0 where
   pub steps : ℕ
+  pub few : steps ≤ c.most
   pub result : Option ConcreteValue
   pub state : State
   pub ran : residual c steps ≡ Ends result state
@@ -107,6 +111,7 @@ unneeded c g n looks un (d ∷ cs) own = (not_needed c.p c.f c.at' c.items c.fac
 pub now_counted : (c : Stage) (s : State) → c.items (Keep s.frame.func s.frame.node) ≡ false → Beside c s → Beside c (with_frame (counted s.frame) s)
 now_counted c s un b = record {
   steps = b.steps;
+  few = b.few;
   state = b.state;
   ran = b.ran;
   shows = shows_counted c.p c.f c.items s.frame b.state.frame s.callers b.state.callers un b.shows;
@@ -121,6 +126,7 @@ moved_silently c s _ x at plain un b (did regs next added events keeps leads own
     let looks = shows_looks c.p c.f c.items s.frame b.state.frame s.callers b.state.callers b.shows in
     record {
       steps = b.steps;
+      few = b.few;
       state = b.state;
       ran = b.ran;
       shows = shows_moved c.p c.f c.items s.frame b.state.frame s.callers b.state.callers regs next un

@@ -1,2 +1,5 @@
 pub mod ResidualRun
 pub mod Simulation
+pub mod Moments
+pub mod CallsInRuns
+pub mod OneSlice

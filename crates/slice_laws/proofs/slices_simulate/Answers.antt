@@ -1,4 +1,4 @@
-use Rattle.slice_laws.proofs.Simulating.{simulates}
+use Rattle.slice_laws.proofs.Following.{simulates}
 use Rattle.slice_laws.proofs.slices_simulate.Goals as goal
 
 pub returns : goal.returns
