@@ -1,7 +1,7 @@
 -- Each node keeps that numbers fit, and so does each run.
 use Rattle.std.specs.Prelude.{slice_get, slice_set, unwrap_or, map, drop, reverse, nat_lt, All, ◌==◌, ◌%◌, ◌^◌, if◌then◌else◌}
 use Rattle.std.specs.Option.{option_map, option_to_list}
-use Rattle.std.proofs.Common.{◌≡◌, ℕ, zero, suc, ◌+◌, ◌<◌, Bool, true, false, List, [], ◌∷◌, ◌++◌, length, Option, Some, None, arith}
+use Rattle.std.proofs.Common.{ℕ, zero, suc, ◌+◌, ◌<◌, true, false, List, [], ◌∷◌, ◌++◌, length, Option, Some, None, arith}
 use Rattle.std.proofs.lemmas.List.Elements.{recursion_from_All}
 use Rattle.std.specs.List.{AllByRecursion as Each}
 use Rattle.bitnum.specs.Operations.{applied}
@@ -33,8 +33,8 @@ use Rattle.flat_ir.specs.Whole.{IsWhole, IsWidth, IsFuncOf, operands_of}
 use Rattle.flat_ir.proofs.MadeBasics.{both, each_map, each_append, each_reverse, each_set, each_read}
 use Rattle.flat_ir.proofs.MadeKept.{with_place}
 use Rattle.typed_runs.specs.TypedRuns.{IsTyped, RunIsTyped}
-use Rattle.typed_runs.specs.FittingRuns.{Fits, FitsByte, OperandFits, NumbersFit, HoldsFitting, BytesFit, AreFitting, IsFitting, RunIsFitting}
-use Rattle.typed_runs.specs.Suiting.{Suits, result_of}
+use Rattle.typed_runs.specs.FittingRuns.{Fits, OperandFits, NumbersFit, HoldsFitting, BytesFit, AreFitting, IsFitting, RunIsFitting}
+use Rattle.typed_runs.specs.Suiting.{result_of}
 use Rattle.typed_runs.specs.Laws.{RunsFit, StepsKeepFitting}
 use Rattle.typed_runs.proofs.Runs.{IsReady, ready_for, run_typed}
 use Rattle.typed_runs.proofs.Suited.{func_widths, type_width, node_suits}
@@ -208,7 +208,7 @@ attempt_fits p input (node.Call callee args result next) s it =
     let widths = func_widths (length p.globals) (length p.funcs) p.funcs callee.0 (recursion_from_All (IsFuncOf (length p.globals) (length p.funcs)) p.funcs it.whole.funcs) in
     record {
       frame = each_append Fits values (map zero_of (drop (length values) ts)) (args_fit s.frame args it.fitting.frame it.operands)
-      (zeros_fit (drop (length values) ts) (each_drop IsWidth (length values) ts widths));
+          (zeros_fit (drop (length values) ts) (each_drop IsWidth (length values) ts widths));
       callers = (it.fitting.frame, it.fitting.callers);
       bytes = it.fitting.bytes;
     }
@@ -251,7 +251,7 @@ step_fits p input s whole checked numbers bytes typed fitting =
 pub start_fits : (p : ProgramData) → IsWhole p → IsFitting (start p)
 start_fits p whole = record {
   frame = zeros_fit (regs_of (func_at p p.main))
-  (func_widths (length p.globals) (length p.funcs) p.funcs p.main.0 (recursion_from_All (IsFuncOf (length p.globals) (length p.funcs)) p.funcs whole.funcs));
+      (func_widths (length p.globals) (length p.funcs) p.funcs p.main.0 (recursion_from_All (IsFuncOf (length p.globals) (length p.funcs)) p.funcs whole.funcs));
   callers = tt;
   bytes = tt;
 }

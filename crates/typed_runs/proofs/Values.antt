@@ -1,8 +1,8 @@
 -- The values that nodes give have the types of the registers that they set.
 use Rattle.std.specs.Prelude.{slice_get, take, ◌==◌, if◌then◌else◌}
 use Rattle.std.specs.Option.{option_map}
-use Rattle.std.proofs.Common.{◌≡◌, ℕ, true, false, ◌&&◌, List, [], ◌∷◌, Option, Some, None, refl, subst}
-use Rattle.checks.specs.Types.{type_of, type_at, same_type, is_int, has, sets, gives, have, casts}
+use Rattle.std.proofs.Common.{◌≡◌, ℕ, true, false, List, [], ◌∷◌, Option, Some, None, refl, subst}
+use Rattle.checks.specs.Types.{sets, gives, have, casts}
 use Rattle.checks.specs.Typed.{calls, is_typed}
 use Rattle.flat_ir.specs.declared.names.FuncId.{FuncId}
 use Rattle.flat_ir.specs.declared.names.RegId.{RegId}
@@ -19,7 +19,7 @@ use Rattle.flat_ir.specs.declared.values.ConcreteByte.{ConcreteByte}
 use Rattle.flat_ir.specs.declared.values.ConcreteByte.TheVariants as byte
 use Rattle.flat_ir.specs.declared.values.ConcreteValue.{ConcreteValue}
 use Rattle.flat_ir.specs.declared.values.ConcreteValue.TheVariants.{Int, Ptr}
-use Rattle.flat_ir.specs.Registers.{null, number, joined, joined_number, joined_pointer, null_if_zero, number_of_width, are_bytes_of}
+use Rattle.flat_ir.specs.Registers.{null, joined, joined_number, joined_pointer, null_if_zero, number_of_width, are_bytes_of}
 use Rattle.flat_ir.specs.Machine.{Frame, func_at, regs_of, value_in}
 use Rattle.flat_ir.specs.Steps.{cast_to, width_of, call_result}
 use Rattle.bitnum.specs.Number.{Number}
