@@ -25,6 +25,7 @@ use Rattle.flat_ir.specs.Registers.{int, null, cut, bytes_of_type, bytes_of_valu
 use Rattle.flat_ir.specs.Steps.{byte_there, loaded}
 use Rattle.flat_ir.specs.Whole.{IsWhole, IsWidth, IsGlobalOf, InitIn}
 use Rattle.typed_runs.specs.FittingRuns.{Fits, FitsByte, InitFits, NumbersFit, BytesFit}
+use Rattle.typed_runs.specs.Shown.{OptionFits}
 use Rattle.typed_runs.proofs.Numbers.{none_offset, width_is}
 use Rattle.typed_runs.proofs.Suited.{scalar_bytes}
 
@@ -127,11 +128,6 @@ number_below (byte.PtrByte a j ∷ bs) all = tt
 number_below (byte.Int b ∷ bs) all =
     subst (λ (limit : ℕ). IsBelow limit (joined_number (byte.Int b ∷ bs))) (sym (eight_more (length bs)))
     (one_more b (2 ^ (8 * length bs)) (joined_number bs) all.0 (number_below bs all.1))
-
--- a value, if there is one, that fits
-abbrev pub OptionFits : Option ConcreteValue → Type 0
-OptionFits None = Unit {0}
-OptionFits (Some v) = Fits v
 
 of_width_fits : (w : ℕ) (o : Option ℕ) → IsWidth (type.Int w) → IsBelow (2 ^ w) o → OptionFits (number_of_width w o)
 of_width_fits w None width below = tt

@@ -34,12 +34,13 @@ use Rattle.flat_ir.proofs.MadeBasics.{both, each_map, each_append, each_reverse,
 use Rattle.flat_ir.proofs.MadeKept.{with_place}
 use Rattle.typed_runs.specs.TypedRuns.{IsTyped, RunIsTyped}
 use Rattle.typed_runs.specs.FittingRuns.{Fits, OperandFits, NumbersFit, HoldsFitting, BytesFit, AreFitting, IsFitting, RunIsFitting}
+use Rattle.typed_runs.specs.Shown.{OptionFits}
 use Rattle.typed_runs.specs.Suiting.{result_of}
 use Rattle.typed_runs.specs.Laws.{RunsFit, StepsKeepFitting}
 use Rattle.typed_runs.proofs.Runs.{IsReady, ready_for, run_typed}
 use Rattle.typed_runs.proofs.Suited.{func_widths, type_width, node_suits}
 use Rattle.typed_runs.proofs.Numbers.{none_offset, number_fits, offset_fits, operand_fits, zeros_fit, each_drop, args_fit, bit_fits, cast_fits, moved_fits, read_fits}
-use Rattle.typed_runs.proofs.Bytes.{OptionFits, few_bytes, writes_fit, stores_fit, frees_fit, there_fits, loaded_fits}
+use Rattle.typed_runs.proofs.Bytes.{few_bytes, writes_fit, stores_fit, frees_fit, there_fits, loaded_fits}
 
 -- A node is about to be executed, and all that it may read fits.
 pub record AllFits (p : ProgramData) (input : List ℕ) (n : Node) (s : State) : Type 0 where

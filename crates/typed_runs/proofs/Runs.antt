@@ -30,11 +30,12 @@ use Rattle.flat_ir.specs.Run.{run, goes_on, step-attempt, run-zero, run-suc}
 use Rattle.flat_ir.proofs.MadeBasics.{both}
 use Rattle.flat_ir.proofs.MadeKept.{with_place}
 use Rattle.typed_runs.specs.TypedRuns.{HasType, HaveTypes, HoldsTypes, IsCallOf, WaitAtCalls, AreTyped, IsTyped, RunIsTyped}
+use Rattle.typed_runs.specs.Shown.{IsGiven}
 use Rattle.typed_runs.specs.Suiting.{result_of}
 use Rattle.typed_runs.specs.Laws.{StepsKeepTypes}
 use Rattle.typed_runs.proofs.Checked.{node_typed}
 use Rattle.typed_runs.proofs.Types.{all_three, of_same, have_set, zeros_have, operand_is, as_wide, args_have}
-use Rattle.typed_runs.proofs.Values.{OptionHas, IsGiven, cast_has, joined_has, given, call_sets}
+use Rattle.typed_runs.proofs.Values.{OptionHas, cast_has, joined_has, given, call_sets}
 
 -- the types of the registers of the frame's function, and of its result
 abbrev types_of : ProgramData → Frame → List RegType

@@ -25,6 +25,7 @@ use Rattle.flat_ir.specs.Steps.{cast_to, width_of, call_result}
 use Rattle.bitnum.specs.Number.{Number}
 use Rattle.flat_ir.proofs.MadeBasics.{both}
 use Rattle.typed_runs.specs.TypedRuns.{HasType, HoldsTypes, IsCallOf}
+use Rattle.typed_runs.specs.Shown.{IsGiven}
 use Rattle.typed_runs.specs.Suiting.{result_of}
 use Rattle.typed_runs.proofs.Types.{operand_is}
 
@@ -32,13 +33,6 @@ use Rattle.typed_runs.proofs.Types.{operand_is}
 abbrev pub OptionHas : RegType → Option ConcreteValue → Type 0
 OptionHas t None = Unit {0}
 OptionHas t (Some v) = HasType t v
-
--- a value exactly where there is a type, and of that type
-abbrev pub IsGiven : Option RegType → Option ConcreteValue → Type 0
-IsGiven None None = Unit {0}
-IsGiven None (Some v) = ⊥
-IsGiven (Some t) None = ⊥
-IsGiven (Some t) (Some v) = HasType t v
 
 -- a cast gives a number of the width that it is to have
 pub cast_has : (op : CastOp) (from t : RegType) (n : Number) → casts op from t ≡ true → HasType t (Int (cast_to op (width_of t) n))
