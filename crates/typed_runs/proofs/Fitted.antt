@@ -66,7 +66,7 @@ funcs_fit (f ∷ fs) zero n all =
     (recursion_from_All (λ (m : Node). All OperandFits (operands_of m)) f.nodes all.0)) tt
 funcs_fit (f ∷ fs) (suc k) n all = funcs_fit fs k n all.1
 
-node_fits : (p : ProgramData) (f : FuncId) (n : NodeId) → NumbersFit p → Each OperandFits (operands_of (node_at p f n))
+pub node_fits : (p : ProgramData) (f : FuncId) (n : NodeId) → NumbersFit p → Each OperandFits (operands_of (node_at p f n))
 node_fits p f n numbers = funcs_fit p.funcs f.0 n.0 (recursion_from_All (λ (g : Func). All (λ m. All OperandFits (operands_of m)) g.nodes) p.funcs numbers.nodes)
 
 -- the frame goes on elsewhere, with these registers and this history
@@ -137,7 +137,7 @@ returns_fit p (g ∷ gs) v s callers bytes it =
     let call : Node = node_at p g.func g.node in
     resumes g gs (call_next call) (call_result call) v s.history callers.0 callers.1 bytes it
 
-given_fits : (f : Frame) (a : Option Operand) → HoldsFitting f → Each OperandFits (option_to_list a) → OptionFits (option_map (value_in f) a)
+pub given_fits : (f : Frame) (a : Option Operand) → HoldsFitting f → Each OperandFits (option_to_list a) → OptionFits (option_map (value_in f) a)
 given_fits f None holds all = tt
 given_fits f (Some a) holds all = operand_fits f a holds all.0
 
@@ -231,22 +231,23 @@ attempt_fits p input node.Abort s it = tt
 attempt_fits p input (node.Assert args) s it = tt
 attempt_fits p input node.Unreachable s it = tt
 
--- a step from a typed state in which all fits leads to one
-step_keeps : (p : ProgramData) (input : List ℕ) (s : State) → IsWhole p → IsChecked p.funcs → NumbersFit p → Each (λ b. b < 256) input
-    → IsTyped p s → IsFitting s → RunIsFitting (step p input s)
-step_keeps p input s whole checked numbers bytes typed fitting =
-    rw (step-attempt p input s) (attempt_fits p input (node_at p s.frame.func s.frame.node) (with_frame (counted s.frame) s) (record {
-      whole = whole;
-      numbers = numbers;
-      bytes = bytes;
-      ready = ready_for p s checked typed;
-      operands = node_fits p s.frame.func s.frame.node numbers;
-      fitting = record { frame = fitting.frame; callers = fitting.callers; bytes = fitting.bytes };
-    }))
+-- the node at which a typed state stands may read nothing that doesn't fit
+pub fits_for : (p : ProgramData) (input : List ℕ) (s : State) → IsWhole p → IsChecked p.funcs → NumbersFit p → All (λ b. b < 256) input
+    → IsTyped p s → IsFitting s → AllFits p input (node_at p s.frame.func s.frame.node) (with_frame (counted s.frame) s)
+fits_for p input s whole checked numbers bytes typed fitting = record {
+  whole = whole;
+  numbers = numbers;
+  bytes = recursion_from_All (λ b. b < 256) input bytes;
+  ready = ready_for p s checked typed;
+  operands = node_fits p s.frame.func s.frame.node numbers;
+  fitting = record { frame = fitting.frame; callers = fitting.callers; bytes = fitting.bytes };
+}
 
+-- a step from a typed state in which all fits leads to one
 pub step_fits : StepsKeepFitting
 step_fits p input s whole checked numbers bytes typed fitting =
-    step_keeps p input s whole checked numbers (recursion_from_All (λ b. b < 256) input bytes) typed fitting
+    rw (step-attempt p input s) (attempt_fits p input (node_at p s.frame.func s.frame.node) (with_frame (counted s.frame) s)
+    (fits_for p input s whole checked numbers bytes typed fitting))
 
 -- all fits in main's first state
 pub start_fits : (p : ProgramData) → IsWhole p → IsFitting (start p)

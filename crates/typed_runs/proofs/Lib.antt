@@ -3,6 +3,7 @@ pub mod Checked
 pub mod Fitted
 pub mod Numbers
 pub mod Runs
+pub mod ShownFit
 pub mod Shows
 pub mod Suited
 pub mod Types
