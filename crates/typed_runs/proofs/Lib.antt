@@ -8,3 +8,4 @@ pub mod Shows
 pub mod Suited
 pub mod Types
 pub mod Values
+pub mod Walked

@@ -1,8 +1,12 @@
-//! In each run of a program that passed its checks, each register holds a value of its type. There is no code here: its
-//! functions state the laws.
+//! In each run of a program that passed its checks, each register holds a value of its type. Functions without
+//! arguments state the laws; the one with code walks a program, so that what the last laws ask of its numbers is known.
 #![tactic(auto)]
 
+mod constants;
+
 ghost use Rattle.typed_runs.specs.Laws.{NodesAreTyped, OperandsAreTyped, RunsAreTyped, RunsFit, StepsKeepFitting, StepsKeepTypes, TracesAreTyped, TracesFit, TypedFramesSuit};
+
+pub use constants::numbers_fit;
 
 /// Where no condition fails in a program, each state of each of its runs is typed.
 pub fn runs_are_typed()
