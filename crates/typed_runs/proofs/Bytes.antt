@@ -1,11 +1,10 @@
 -- Bytes in memory fit, and so does what they are joined to.
 use Rattle.std.specs.Prelude.{All, slice_get, ◌*◌, ◌/◌, ◌%◌, ◌^◌, ◌==◌, if◌then◌else◌}
-use Rattle.std.proofs.Common.{◌≡◌, ℕ, zero, suc, ◌+◌, ◌≤◌, ◌<◌, Bool, true, false, ◌&&◌, List, [], ◌∷◌, length, Option, Some, None, refl, sym, ◌∙◌, ap, subst, arith}
+use Rattle.std.proofs.Common.{◌≡◌, ℕ, zero, suc, ◌+◌, ◌≤◌, ◌<◌, true, false, ◌&&◌, List, [], ◌∷◌, length, Option, Some, None, refl, sym, ◌∙◌, ap, subst, arith}
 use Rattle.std.proofs.Math.Nat.{mod-lt, div-le_of_le-mul}
 use Rattle.std.proofs.lemmas.Nat.{pow_pos, pow-add}
 use Rattle.std.proofs.lemmas.List.Elements.{recursion_from_All}
 use Rattle.std.specs.List.{AllByRecursion as Each}
-use Rattle.bitnum.specs.Number.{Number, IsNumber}
 use Rattle.checks.specs.Types.{is_scalar}
 use Rattle.flat_ir.specs.declared.names.ObjectName.{ObjectName}
 use Rattle.flat_ir.specs.declared.names.ObjectName.TheVariants.{Global, Made}
@@ -21,11 +20,12 @@ use Rattle.flat_ir.specs.declared.values.ConcreteByte.TheVariants as byte
 use Rattle.flat_ir.specs.declared.values.ConcreteValue.{ConcreteValue}
 use Rattle.flat_ir.specs.declared.values.ConcreteValue.TheVariants.{Int, Ptr}
 use Rattle.flat_ir.specs.History.{History, Write, Alloc, Free, Get, Put, same_object, byte_at, initial_of, initial_byte}
-use Rattle.flat_ir.specs.Effects.{written_in, stored_in, freed_in}
+use Rattle.flat_ir.specs.Effects.{written_in, stored_in}
 use Rattle.flat_ir.specs.Registers.{int, null, cut, bytes_of_type, bytes_of_value, joined, joined_number, joined_pointer, null_if_zero, number_of_width, are_bytes_of, first_of}
 use Rattle.flat_ir.specs.Steps.{byte_there, loaded}
 use Rattle.flat_ir.specs.Whole.{IsWhole, IsWidth, IsGlobalOf, InitIn}
 use Rattle.typed_runs.specs.FittingRuns.{Fits, FitsByte, InitFits, NumbersFit, BytesFit}
+use Rattle.typed_runs.specs.Shown.{OptionFits}
 use Rattle.typed_runs.proofs.Numbers.{none_offset, width_is}
 use Rattle.typed_runs.proofs.Suited.{scalar_bytes}
 
@@ -128,11 +128,6 @@ number_below (byte.PtrByte a j ∷ bs) all = tt
 number_below (byte.Int b ∷ bs) all =
     subst (λ (limit : ℕ). IsBelow limit (joined_number (byte.Int b ∷ bs))) (sym (eight_more (length bs)))
     (one_more b (2 ^ (8 * length bs)) (joined_number bs) all.0 (number_below bs all.1))
-
--- a value, if there is one, that fits
-abbrev pub OptionFits : Option ConcreteValue → Type 0
-OptionFits None = Unit {0}
-OptionFits (Some v) = Fits v
 
 of_width_fits : (w : ℕ) (o : Option ℕ) → IsWidth (type.Int w) → IsBelow (2 ^ w) o → OptionFits (number_of_width w o)
 of_width_fits w None width below = tt

@@ -1,9 +1,8 @@
 -- In a program that passed its checks each node has the types that it needs.
 use Rattle.std.specs.Prelude.{slice_get, unwrap_or}
-use Rattle.std.proofs.Common.{◌≡◌, ℕ, true, List, Option, Some, None, refl, inl, inr}
+use Rattle.std.proofs.Common.{◌≡◌, ℕ, true, List, Some, None, refl, inl, inr}
 use Rattle.checks.specs.Errors.{IsCleanFunc, mistyped}
 use Rattle.checks.specs.Typed.{is_typed}
-use Rattle.flat_ir.specs.declared.nodes.Node.{Node}
 use Rattle.flat_ir.specs.declared.nodes.Node.TheVariants as node
 use Rattle.flat_ir.specs.declared.program.Func.{Func}
 use Rattle.flat_ir.specs.Machine.{nodes_of, regs_of}

@@ -1,7 +1,7 @@
 -- Each node keeps that numbers fit, and so does each run.
 use Rattle.std.specs.Prelude.{slice_get, slice_set, unwrap_or, map, drop, reverse, nat_lt, All, ◌==◌, ◌%◌, ◌^◌, if◌then◌else◌}
 use Rattle.std.specs.Option.{option_map, option_to_list}
-use Rattle.std.proofs.Common.{◌≡◌, ℕ, zero, suc, ◌+◌, ◌<◌, Bool, true, false, List, [], ◌∷◌, ◌++◌, length, Option, Some, None, arith}
+use Rattle.std.proofs.Common.{ℕ, zero, suc, ◌+◌, ◌<◌, true, false, List, [], ◌∷◌, ◌++◌, length, Option, Some, None, arith}
 use Rattle.std.proofs.lemmas.List.Elements.{recursion_from_All}
 use Rattle.std.specs.List.{AllByRecursion as Each}
 use Rattle.bitnum.specs.Operations.{applied}
@@ -33,13 +33,14 @@ use Rattle.flat_ir.specs.Whole.{IsWhole, IsWidth, IsFuncOf, operands_of}
 use Rattle.flat_ir.proofs.MadeBasics.{both, each_map, each_append, each_reverse, each_set, each_read}
 use Rattle.flat_ir.proofs.MadeKept.{with_place}
 use Rattle.typed_runs.specs.TypedRuns.{IsTyped, RunIsTyped}
-use Rattle.typed_runs.specs.FittingRuns.{Fits, FitsByte, OperandFits, NumbersFit, HoldsFitting, BytesFit, AreFitting, IsFitting, RunIsFitting}
-use Rattle.typed_runs.specs.Suiting.{Suits, result_of}
+use Rattle.typed_runs.specs.FittingRuns.{Fits, OperandFits, NumbersFit, HoldsFitting, BytesFit, AreFitting, IsFitting, RunIsFitting}
+use Rattle.typed_runs.specs.Shown.{OptionFits}
+use Rattle.typed_runs.specs.Suiting.{result_of}
 use Rattle.typed_runs.specs.Laws.{RunsFit, StepsKeepFitting}
 use Rattle.typed_runs.proofs.Runs.{IsReady, ready_for, run_typed}
 use Rattle.typed_runs.proofs.Suited.{func_widths, type_width, node_suits}
 use Rattle.typed_runs.proofs.Numbers.{none_offset, number_fits, offset_fits, operand_fits, zeros_fit, each_drop, args_fit, bit_fits, cast_fits, moved_fits, read_fits}
-use Rattle.typed_runs.proofs.Bytes.{OptionFits, few_bytes, writes_fit, stores_fit, frees_fit, there_fits, loaded_fits}
+use Rattle.typed_runs.proofs.Bytes.{few_bytes, writes_fit, stores_fit, frees_fit, there_fits, loaded_fits}
 
 -- A node is about to be executed, and all that it may read fits.
 pub record AllFits (p : ProgramData) (input : List ℕ) (n : Node) (s : State) : Type 0 where
@@ -65,7 +66,7 @@ funcs_fit (f ∷ fs) zero n all =
     (recursion_from_All (λ (m : Node). All OperandFits (operands_of m)) f.nodes all.0)) tt
 funcs_fit (f ∷ fs) (suc k) n all = funcs_fit fs k n all.1
 
-node_fits : (p : ProgramData) (f : FuncId) (n : NodeId) → NumbersFit p → Each OperandFits (operands_of (node_at p f n))
+pub node_fits : (p : ProgramData) (f : FuncId) (n : NodeId) → NumbersFit p → Each OperandFits (operands_of (node_at p f n))
 node_fits p f n numbers = funcs_fit p.funcs f.0 n.0 (recursion_from_All (λ (g : Func). All (λ m. All OperandFits (operands_of m)) g.nodes) p.funcs numbers.nodes)
 
 -- the frame goes on elsewhere, with these registers and this history
@@ -136,7 +137,7 @@ returns_fit p (g ∷ gs) v s callers bytes it =
     let call : Node = node_at p g.func g.node in
     resumes g gs (call_next call) (call_result call) v s.history callers.0 callers.1 bytes it
 
-given_fits : (f : Frame) (a : Option Operand) → HoldsFitting f → Each OperandFits (option_to_list a) → OptionFits (option_map (value_in f) a)
+pub given_fits : (f : Frame) (a : Option Operand) → HoldsFitting f → Each OperandFits (option_to_list a) → OptionFits (option_map (value_in f) a)
 given_fits f None holds all = tt
 given_fits f (Some a) holds all = operand_fits f a holds all.0
 
@@ -208,7 +209,7 @@ attempt_fits p input (node.Call callee args result next) s it =
     let widths = func_widths (length p.globals) (length p.funcs) p.funcs callee.0 (recursion_from_All (IsFuncOf (length p.globals) (length p.funcs)) p.funcs it.whole.funcs) in
     record {
       frame = each_append Fits values (map zero_of (drop (length values) ts)) (args_fit s.frame args it.fitting.frame it.operands)
-      (zeros_fit (drop (length values) ts) (each_drop IsWidth (length values) ts widths));
+          (zeros_fit (drop (length values) ts) (each_drop IsWidth (length values) ts widths));
       callers = (it.fitting.frame, it.fitting.callers);
       bytes = it.fitting.bytes;
     }
@@ -230,28 +231,29 @@ attempt_fits p input node.Abort s it = tt
 attempt_fits p input (node.Assert args) s it = tt
 attempt_fits p input node.Unreachable s it = tt
 
--- a step from a typed state in which all fits leads to one
-step_keeps : (p : ProgramData) (input : List ℕ) (s : State) → IsWhole p → IsChecked p.funcs → NumbersFit p → Each (λ b. b < 256) input
-    → IsTyped p s → IsFitting s → RunIsFitting (step p input s)
-step_keeps p input s whole checked numbers bytes typed fitting =
-    rw (step-attempt p input s) (attempt_fits p input (node_at p s.frame.func s.frame.node) (with_frame (counted s.frame) s) (record {
-      whole = whole;
-      numbers = numbers;
-      bytes = bytes;
-      ready = ready_for p s checked typed;
-      operands = node_fits p s.frame.func s.frame.node numbers;
-      fitting = record { frame = fitting.frame; callers = fitting.callers; bytes = fitting.bytes };
-    }))
+-- the node at which a typed state stands may read nothing that doesn't fit
+pub fits_for : (p : ProgramData) (input : List ℕ) (s : State) → IsWhole p → IsChecked p.funcs → NumbersFit p → All (λ b. b < 256) input
+    → IsTyped p s → IsFitting s → AllFits p input (node_at p s.frame.func s.frame.node) (with_frame (counted s.frame) s)
+fits_for p input s whole checked numbers bytes typed fitting = record {
+  whole = whole;
+  numbers = numbers;
+  bytes = recursion_from_All (λ b. b < 256) input bytes;
+  ready = ready_for p s checked typed;
+  operands = node_fits p s.frame.func s.frame.node numbers;
+  fitting = record { frame = fitting.frame; callers = fitting.callers; bytes = fitting.bytes };
+}
 
+-- a step from a typed state in which all fits leads to one
 pub step_fits : StepsKeepFitting
 step_fits p input s whole checked numbers bytes typed fitting =
-    step_keeps p input s whole checked numbers (recursion_from_All (λ b. b < 256) input bytes) typed fitting
+    rw (step-attempt p input s) (attempt_fits p input (node_at p s.frame.func s.frame.node) (with_frame (counted s.frame) s)
+    (fits_for p input s whole checked numbers bytes typed fitting))
 
 -- all fits in main's first state
 pub start_fits : (p : ProgramData) → IsWhole p → IsFitting (start p)
 start_fits p whole = record {
   frame = zeros_fit (regs_of (func_at p p.main))
-  (func_widths (length p.globals) (length p.funcs) p.funcs p.main.0 (recursion_from_All (IsFuncOf (length p.globals) (length p.funcs)) p.funcs whole.funcs));
+      (func_widths (length p.globals) (length p.funcs) p.funcs p.main.0 (recursion_from_All (IsFuncOf (length p.globals) (length p.funcs)) p.funcs whole.funcs));
   callers = tt;
   bytes = tt;
 }

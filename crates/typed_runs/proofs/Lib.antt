@@ -3,6 +3,9 @@ pub mod Checked
 pub mod Fitted
 pub mod Numbers
 pub mod Runs
+pub mod ShownFit
+pub mod Shows
 pub mod Suited
 pub mod Types
 pub mod Values
+pub mod Walked

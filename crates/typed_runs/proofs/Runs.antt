@@ -1,12 +1,11 @@
 -- Each node keeps types, and so does each run.
 use Rattle.std.specs.Prelude.{slice_set, map, drop, take, nat_lt, ◌==◌, if◌then◌else◌}
 use Rattle.std.specs.Option.{option_map}
-use Rattle.std.proofs.Common.{◌≡◌, ℕ, zero, suc, Bool, true, false, ◌&&◌, List, [], ◌∷◌, ◌++◌, length, Option, Some, None, refl, sym, subst}
+use Rattle.std.proofs.Common.{◌≡◌, ℕ, zero, suc, true, false, List, [], ◌∷◌, ◌++◌, length, Option, Some, None, refl, sym, subst}
 use Rattle.std.specs.List.{AllByRecursion as Each}
 use Rattle.bitnum.specs.Operations.{applied}
-use Rattle.bitnum.specs.declared.Pred.{Pred}
 use Rattle.checks.specs.Errors.{IsChecked}
-use Rattle.checks.specs.Types.{type_of, type_at, same_type, is_int, is_scalar, has, sets, gives as returns_type, have, compares, are_indexed, are_moved}
+use Rattle.checks.specs.Types.{type_of, type_at, same_type, is_int, has, sets, have, compares, are_indexed, are_moved}
 use Rattle.checks.specs.Typed.{calls, is_typed}
 use Rattle.flat_ir.specs.declared.names.FuncId.{FuncId}
 use Rattle.flat_ir.specs.declared.names.NodeId.{NodeId}
@@ -23,20 +22,20 @@ use Rattle.flat_ir.specs.declared.values.Address.{Address}
 use Rattle.flat_ir.specs.declared.values.ConcreteValue.{ConcreteValue}
 use Rattle.flat_ir.specs.declared.values.ConcreteValue.TheVariants.{Int, Ptr}
 use Rattle.flat_ir.specs.declared.values.FaultKind.{FaultKind}
-use Rattle.flat_ir.specs.History.{History}
 use Rattle.flat_ir.specs.Effects.{written_in, stored_in, freed_in}
 use Rattle.flat_ir.specs.Registers.{null, zero_of, first_of, bytes_of_type, bytes_of_value}
-use Rattle.flat_ir.specs.Machine.{Frame, State, Run, On, Over, func_at, regs_of, node_at, value_in, start, counted, made_here, set_if, at_node, entered}
+use Rattle.flat_ir.specs.Machine.{Frame, State, Run, On, Over, func_at, regs_of, node_at, value_in, start, counted, made_here, set_if, at_node}
 use Rattle.flat_ir.specs.Steps.{attempt, unless, gives, gives_if, gives_loaded, to, with_frame, with_history, number_in, address_in, division_fault, access_fault, free_fault, bit, related, cast_to, width_of, moved_by_all, new_here, allocated, loaded, byte_there, next_byte, set_all, case_of, branches, returns, ended, call_next, call_result, set_result}
-use Rattle.flat_ir.specs.Run.{step, run, goes_on, step-attempt, run-zero, run-suc}
+use Rattle.flat_ir.specs.Run.{run, goes_on, step-attempt, run-zero, run-suc}
 use Rattle.flat_ir.proofs.MadeBasics.{both}
 use Rattle.flat_ir.proofs.MadeKept.{with_place}
 use Rattle.typed_runs.specs.TypedRuns.{HasType, HaveTypes, HoldsTypes, IsCallOf, WaitAtCalls, AreTyped, IsTyped, RunIsTyped}
+use Rattle.typed_runs.specs.Shown.{IsGiven}
 use Rattle.typed_runs.specs.Suiting.{result_of}
 use Rattle.typed_runs.specs.Laws.{StepsKeepTypes}
 use Rattle.typed_runs.proofs.Checked.{node_typed}
 use Rattle.typed_runs.proofs.Types.{all_three, of_same, have_set, zeros_have, operand_is, as_wide, args_have}
-use Rattle.typed_runs.proofs.Values.{OptionHas, IsGiven, cast_has, joined_has, given, call_sets}
+use Rattle.typed_runs.proofs.Values.{OptionHas, cast_has, joined_has, given, call_sets}
 
 -- the types of the registers of the frame's function, and of its result
 abbrev types_of : ProgramData → Frame → List RegType

@@ -1,10 +1,9 @@
 -- A typed frame suits the node at which it stands.
 use Rattle.std.specs.Prelude.{slice_get}
-use Rattle.std.proofs.Common.{◌≡◌, ℕ, zero, suc, ◌*◌, ◌/◌, ◌≤◌, Bool, true, false, ◌&&◌, ◌||◌, ◌==◌, List, [], ◌∷◌, length, Option, Some, None, refl, sym, ◌∙◌, ap, subst, ◌⊎◌, inl, inr, arith}
+use Rattle.std.proofs.Common.{◌≡◌, ℕ, zero, suc, ◌*◌, ◌/◌, ◌≤◌, Bool, true, false, ◌||◌, ◌==◌, List, [], ◌∷◌, length, Option, refl, sym, ◌∙◌, ap, subst, ◌⊎◌, inl, inr, arith}
 use Rattle.std.proofs.lemmas.Bool.{eqb-true}
 use Rattle.std.proofs.lemmas.List.Elements.{recursion_from_All}
 use Rattle.std.specs.List.{AllByRecursion as Each}
-use Rattle.checks.specs.Errors.{IsChecked}
 use Rattle.checks.specs.Types.{type_of, type_at, same_type, is_int, is_scalar, has, casts, compares, is_equality, resizes}
 use Rattle.checks.specs.Typed.{is_typed}
 use Rattle.flat_ir.specs.declared.names.RegId.{RegId}
@@ -23,7 +22,7 @@ use Rattle.flat_ir.specs.Steps.{width_of}
 use Rattle.flat_ir.specs.Whole.{IsWhole, IsFuncOf, IsWidth}
 use Rattle.flat_ir.proofs.MadeBasics.{both, each_read}
 use Rattle.typed_runs.specs.TypedRuns.{HasType, HoldsTypes}
-use Rattle.typed_runs.specs.Suiting.{AreAlike, TakesBytes, IsNumbers, Suits, result_of}
+use Rattle.typed_runs.specs.Suiting.{AreAlike, IsNumbers, Suits, result_of}
 use Rattle.typed_runs.specs.Laws.{TypedFramesSuit}
 use Rattle.typed_runs.proofs.Checked.{node_typed}
 use Rattle.typed_runs.proofs.Types.{all_three, of_same, operand_has, operand_is}

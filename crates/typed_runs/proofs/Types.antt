@@ -1,10 +1,9 @@
 -- Facts on types of values and of lists of values.
 use Rattle.std.specs.Prelude.{slice_get, slice_set, unwrap_or, map, drop, take}
-use Rattle.std.proofs.Common.{◌≡◌, ℕ, zero, suc, Bool, true, false, ◌&&◌, List, [], ◌∷◌, ◌++◌, length, Option, Some, None, refl, sym, ◌∙◌, ap, subst}
+use Rattle.std.proofs.Common.{◌≡◌, ℕ, zero, suc, Bool, true, false, ◌&&◌, List, [], ◌∷◌, ◌++◌, length, refl, sym, ◌∙◌, ap, subst}
 use Rattle.std.proofs.lemmas.Bool.{eqb-true}
 use Rattle.bitnum.specs.Number.{Number}
-use Rattle.checks.specs.Types.{type_of, type_at, same_type, is_int, has, have}
-use Rattle.flat_ir.specs.declared.names.FuncId.{FuncId}
+use Rattle.checks.specs.Types.{type_of, same_type, is_int, has, have}
 use Rattle.flat_ir.specs.declared.nodes.Operand.{Operand}
 use Rattle.flat_ir.specs.declared.nodes.Operand.TheVariants as operand
 use Rattle.flat_ir.specs.declared.nodes.RegType.{RegType}

@@ -1,8 +1,8 @@
 -- The values that nodes give have the types of the registers that they set.
 use Rattle.std.specs.Prelude.{slice_get, take, ◌==◌, if◌then◌else◌}
 use Rattle.std.specs.Option.{option_map}
-use Rattle.std.proofs.Common.{◌≡◌, ℕ, true, false, ◌&&◌, List, [], ◌∷◌, Option, Some, None, refl, subst}
-use Rattle.checks.specs.Types.{type_of, type_at, same_type, is_int, has, sets, gives, have, casts}
+use Rattle.std.proofs.Common.{◌≡◌, ℕ, true, false, List, [], ◌∷◌, Option, Some, None, refl, subst}
+use Rattle.checks.specs.Types.{sets, gives, have, casts}
 use Rattle.checks.specs.Typed.{calls, is_typed}
 use Rattle.flat_ir.specs.declared.names.FuncId.{FuncId}
 use Rattle.flat_ir.specs.declared.names.RegId.{RegId}
@@ -19,12 +19,13 @@ use Rattle.flat_ir.specs.declared.values.ConcreteByte.{ConcreteByte}
 use Rattle.flat_ir.specs.declared.values.ConcreteByte.TheVariants as byte
 use Rattle.flat_ir.specs.declared.values.ConcreteValue.{ConcreteValue}
 use Rattle.flat_ir.specs.declared.values.ConcreteValue.TheVariants.{Int, Ptr}
-use Rattle.flat_ir.specs.Registers.{null, number, joined, joined_number, joined_pointer, null_if_zero, number_of_width, are_bytes_of}
+use Rattle.flat_ir.specs.Registers.{null, joined, joined_number, joined_pointer, null_if_zero, number_of_width, are_bytes_of}
 use Rattle.flat_ir.specs.Machine.{Frame, func_at, regs_of, value_in}
 use Rattle.flat_ir.specs.Steps.{cast_to, width_of, call_result}
 use Rattle.bitnum.specs.Number.{Number}
 use Rattle.flat_ir.proofs.MadeBasics.{both}
 use Rattle.typed_runs.specs.TypedRuns.{HasType, HoldsTypes, IsCallOf}
+use Rattle.typed_runs.specs.Shown.{IsGiven}
 use Rattle.typed_runs.specs.Suiting.{result_of}
 use Rattle.typed_runs.proofs.Types.{operand_is}
 
@@ -32,13 +33,6 @@ use Rattle.typed_runs.proofs.Types.{operand_is}
 abbrev pub OptionHas : RegType → Option ConcreteValue → Type 0
 OptionHas t None = Unit {0}
 OptionHas t (Some v) = HasType t v
-
--- a value exactly where there is a type, and of that type
-abbrev pub IsGiven : Option RegType → Option ConcreteValue → Type 0
-IsGiven None None = Unit {0}
-IsGiven None (Some v) = ⊥
-IsGiven (Some t) None = ⊥
-IsGiven (Some t) (Some v) = HasType t v
 
 -- a cast gives a number of the width that it is to have
 pub cast_has : (op : CastOp) (from t : RegType) (n : Number) → casts op from t ≡ true → HasType t (Int (cast_to op (width_of t) n))

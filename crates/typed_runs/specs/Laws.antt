@@ -1,5 +1,6 @@
 -- What is so of each run of a program that passed its checks.
-use Rattle.std.specs.Prelude.{◌≡◌, ℕ, ◌<◌, true, List, All}
+use Rattle.std.specs.Prelude.{◌≡◌, ℕ, ◌<◌, true, List, [], All}
+use Rattle.std.specs.List.{AllByRecursion as Each}
 use Rattle.checks.specs.Errors.{IsChecked}
 use Rattle.checks.specs.Types.{type_of}
 use Rattle.checks.specs.Typed.{is_typed}
@@ -8,10 +9,11 @@ use Rattle.flat_ir.specs.declared.names.NodeId.{NodeId}
 use Rattle.flat_ir.specs.declared.nodes.Operand.{Operand}
 use Rattle.flat_ir.specs.declared.program.ProgramData.{ProgramData}
 use Rattle.flat_ir.specs.Machine.{Frame, State, func_at, regs_of, node_at, value_in}
-use Rattle.flat_ir.specs.Run.{step, run}
+use Rattle.flat_ir.specs.Run.{step, run, trace}
 use Rattle.flat_ir.specs.Whole.{IsWhole}
 use Rattle.typed_runs.specs.TypedRuns.{HasType, HoldsTypes, IsTyped, RunIsTyped}
 use Rattle.typed_runs.specs.FittingRuns.{NumbersFit, IsFitting, RunIsFitting}
+use Rattle.typed_runs.specs.Shown.{ShowTypes, EventFits}
 use Rattle.typed_runs.specs.Suiting.{Suits, result_of}
 
 -- each state of each run is typed
@@ -35,6 +37,10 @@ OperandsAreTyped = (p : ProgramData) (f : Frame) (a : Operand) → HoldsTypes p 
 abbrev pub TypedFramesSuit : Type 0
 TypedFramesSuit = (p : ProgramData) (f : Frame) → IsWhole p → IsChecked p.funcs → HoldsTypes p f → Suits p f (node_at p f.func f.node)
 
+-- what a run shows has its types
+abbrev pub TracesAreTyped : Type 0
+TracesAreTyped = (p : ProgramData) (input : List ℕ) (n : ℕ) → IsChecked p.funcs → ShowTypes p [] (trace p input n)
+
 -- where each number of the program and each byte of the input fits, so it does in each state of each run
 abbrev pub RunsFit : Type 0
 RunsFit = (p : ProgramData) (input : List ℕ) (n : ℕ) → IsWhole p → IsChecked p.funcs → NumbersFit p → All (λ b. b < 256) input
@@ -44,3 +50,8 @@ RunsFit = (p : ProgramData) (input : List ℕ) (n : ℕ) → IsWhole p → IsChe
 abbrev pub StepsKeepFitting : Type 0
 StepsKeepFitting = (p : ProgramData) (input : List ℕ) (s : State) → IsWhole p → IsChecked p.funcs → NumbersFit p → All (λ b. b < 256) input
     → IsTyped p s → IsFitting s → RunIsFitting (step p input s)
+
+-- and each value that a run shows fits
+abbrev pub TracesFit : Type 0
+TracesFit = (p : ProgramData) (input : List ℕ) (n : ℕ) → IsWhole p → IsChecked p.funcs → NumbersFit p → All (λ b. b < 256) input
+    → Each EventFits (trace p input n)

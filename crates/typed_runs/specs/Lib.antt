@@ -1,4 +1,5 @@
 pub mod FittingRuns
 pub mod Laws
+pub mod Shown
 pub mod Suiting
 pub mod TypedRuns

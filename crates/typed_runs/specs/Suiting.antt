@@ -1,5 +1,5 @@
 -- What the values of a node's operands, and the type of the register that it sets, are where a typed frame stands at the node.
-use Rattle.std.specs.Prelude.{◌≡◌, ℕ, ◌≤◌, true, Option, Some, None}
+use Rattle.std.specs.Prelude.{◌≡◌, ◌≤◌, true, Option, Some, None}
 use Rattle.bitnum.specs.Number.{Number}
 use Rattle.checks.specs.Types.{resizes}
 use Rattle.flat_ir.specs.declared.nodes.Node.{Node}

@@ -1,8 +1,12 @@
-//! In each run of a program that passed its checks, each register holds a value of its type. There is no code here: its
-//! functions state the laws.
+//! In each run of a program that passed its checks, each register holds a value of its type. Functions without
+//! arguments state the laws; the one with code walks a program, so that what the last laws ask of its numbers is known.
 #![tactic(auto)]
 
-ghost use Rattle.typed_runs.specs.Laws.{NodesAreTyped, OperandsAreTyped, RunsAreTyped, RunsFit, StepsKeepFitting, StepsKeepTypes, TypedFramesSuit};
+mod constants;
+
+ghost use Rattle.typed_runs.specs.Laws.{NodesAreTyped, OperandsAreTyped, RunsAreTyped, RunsFit, StepsKeepFitting, StepsKeepTypes, TracesAreTyped, TracesFit, TypedFramesSuit};
+
+pub use constants::numbers_fit;
 
 /// Where no condition fails in a program, each state of each of its runs is typed.
 pub fn runs_are_typed()
@@ -29,6 +33,11 @@ pub fn typed_frames_suit()
     ensures { TypedFramesSuit }
 {}
 
+/// What a run of it shows as loaded or returned has its type.
+pub fn traces_are_typed()
+    ensures { TracesAreTyped }
+{}
+
 /// Each number in each state of a run fits its width, where those of the program and of the input do.
 pub fn runs_fit()
     ensures { RunsFit }
@@ -37,4 +46,9 @@ pub fn runs_fit()
 /// A step from any such state leads to one, or the run is over.
 pub fn steps_keep_fitting()
     ensures { StepsKeepFitting }
+{}
+
+/// So it is with each value that such a run shows.
+pub fn traces_fit()
+    ensures { TracesFit }
 {}
