@@ -139,7 +139,7 @@ args_types p f (a ∷ as') (t ∷ ts) types e =
     let parts = and_two (has (regs_of (func_at p f.func)) a t) (have (regs_of (func_at p f.func)) as' ts) e in
     λ i. has_type p f a t types parts.0 i ∷ args_types p f as' ts types parts.1 i
 
-zero_types : (ts : List RegType) → map type_of_value (map zero_of ts) ≡ ts
+pub zero_types : (ts : List RegType) → map type_of_value (map zero_of ts) ≡ ts
 zero_types [] = refl
 zero_types (type.Int w ∷ ts) = ap (λ l. type.Int w ∷ l) (zero_types ts)
 zero_types (type.Ptr ∷ ts) = ap (λ l. type.Ptr ∷ l) (zero_types ts)

@@ -4,5 +4,6 @@ pub mod Standing
 pub mod Control
 pub mod Making
 pub mod Ending
+pub mod Stepping
 pub mod Suiting
 pub mod Typing

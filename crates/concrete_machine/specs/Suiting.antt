@@ -54,6 +54,7 @@ pub record Keeps (p : ProgramData) (store : Store) (f : run.Frame) : Type 0 wher
   pub stands : StandsFor p store history
   pub made : HasMade p history f
 
+-- what each kind of node needs
 abbrev pub Suits : ProgramData → Machine → Node → Type 0
 Suits p m (node.Bin op a b result next) = (number_here m a).width ≡ (number_here m b).width
 Suits p m (node.Cmp pr a b result next) = AreAlike (value_in (frame_of m.frame) a) (value_in (frame_of m.frame) b)
@@ -64,3 +65,22 @@ Suits p m (node.Load pointer result next) = TakesBytes (type_at p m.frame.func r
 Suits p m (node.Store value pointer next) = 1 ≤ bytes_of_value (value_in (frame_of m.frame) value)
 Suits p m (node.Ret value) = Keeps p m.store (frame_of m.frame)
 Suits p m _ = Unit {0}
+
+-- the node computes a value from values
+abbrev pub IsComputing : Node → Type 0
+IsComputing (node.Bin op a b result next) = Unit {0}
+IsComputing (node.Cmp pr a b result next) = Unit {0}
+IsComputing (node.Cast op a result next) = Unit {0}
+IsComputing (node.Gep base parts result next) = Unit {0}
+IsComputing (node.Select condition a b result next) = Unit {0}
+IsComputing _ = ⊥
+
+-- the node makes, frees, reads or writes objects
+abbrev pub IsOfMemory : Node → Type 0
+IsOfMemory (node.Alloca size result next) = Unit {0}
+IsOfMemory (node.Malloc size result next) = Unit {0}
+IsOfMemory (node.Free pointer next) = Unit {0}
+IsOfMemory (node.Load pointer result next) = Unit {0}
+IsOfMemory (node.Store value pointer next) = Unit {0}
+IsOfMemory (node.Copy from there next) = Unit {0}
+IsOfMemory _ = ⊥

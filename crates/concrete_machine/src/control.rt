@@ -74,6 +74,14 @@ impl Machine {
         Ok(Led::On)
     }
 
+    /// Goes on at a node.
+    pub(crate) fn jump(&mut self, next: NodeId) -> Led
+        ensures { AttemptsAnywhere (node.Jump next) self.old self.new result }
+    {
+        self.go_to(next);
+        Led::On
+    }
+
     /// One of two nodes, by a condition.
     pub(crate) fn branch(&mut self, condition: &Operand, yes: NodeId, no: NodeId) -> Led
         ensures { AttemptsAnywhere (node.Branch condition.now yes no) self.old self.new result }

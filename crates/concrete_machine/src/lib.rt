@@ -9,6 +9,7 @@ mod memory;
 mod numbers;
 mod returns;
 mod running;
+mod stepping;
 mod turns;
 
 pub use running::{Outcome, RunEnd, run};
