@@ -305,7 +305,7 @@ grown_looks p f at' base looks _ (slice.input g n h e) = tt
 grown_looks p f at' base looks _ (slice.calls g n callee m in' e h) = in'
 grown_looks p f at' base looks _ (slice.results g n m callee r k h reads' e is ret) = slice.calls g m callee (grown_looks p f at' base looks (Keep g n) h) e
 
-marked_has : (set : List Bool) (o : Option ℕ) → has_at set o ≡ true → (k : ℕ) × (o ≡ Some k) × (has set k ≡ true)
+pub marked_has : (set : List Bool) (o : Option ℕ) → has_at set o ≡ true → (k : ℕ) × (o ≡ Some k) × (has set k ≡ true)
 marked_has set None h = absurd (cc)
 marked_has set (Some k) h = (k, refl, h)
 
