@@ -315,7 +315,6 @@ marked_own p starts set m h = let w = marked_has set (number p starts m) h in (p
 
 module _ (p : ProgramData) (t : Tables) (f : FuncId) (at' : Location) (base : Items) (starts : List ℕ) (looked set : List Bool) (full : IsFull p t f at' base starts looked set)
     (whole : IsWhole p) (are : ArePointsTo p t) where
-
   -- a node is retained for something of the set
   cause_step : (g : FuncId) (n : NodeId) → Looks p f g → n.0 < end_of p g → (m : Mark) → Contains (causes_of p t g n (node_at p g n)) m → marked p starts set m ≡ true
       → marked p starts set (Kept g n) ≡ true

@@ -62,7 +62,6 @@ arrow_there p starts ls l a b there e e' =
 
 module _ (p : ProgramData) (whole : IsWhole p) (t : Tables) (are : ArePointsTo p t) (f : FuncId) (at' : Location) (starts : List ℕ) (laid : AreLaidOut p starts)
     (looked : List Bool) (exactly : Exactly (λ k. Looks p f (func k)) (has looked)) where
-
   arrows : List Arrow
   arrows = flat_map (arrow_of p starts) (links p t looked)
 
@@ -140,7 +139,6 @@ kept_same g h n m e = (cc, cc)
 
 module _ (p : ProgramData) (f : FuncId) (starts : List ℕ) (laid : AreLaidOut p starts) (looked : List Bool) (exactly : Exactly (λ k. Looks p f (func k)) (has looked)) (old new : List Bool)
     (closes : ClosesOnce p starts looked old new) where
-
   -- a node of the new set was one of the old, or parts its ways
   kept_or_parts : (g : FuncId) (n : NodeId) → marked p starts new (Kept g n) ≡ true → (marked p starts old (Kept g n) ≡ true) ⊎ PartsIn p f (items_of p starts old) g n
   kept_or_parts g n h =

@@ -83,7 +83,6 @@ no_sums g kept is first rest (suc n) = none
     none m (beyond k open' edge met) = no_edge k edge
 
 module _ (p : ProgramData) (f : FuncId) (l : Location) (starts : List ℕ) (set : List Bool) (found : IsFound p f l starts set) where
-
   -- a node that is met first is the end, or retained
   end_or_kept : (g : FuncId) (n m : ℕ) → Meets (graph_of p g) (retained p g (items_of p starts set)) n m → (m ≡ end_of p g) ⊎ (marked p starts set (mark.Kept g (record { 0 = m })) ≡ true)
   end_or_kept g n m met =

@@ -73,7 +73,6 @@ on_the_way p f l starts set given = record { base = nothing; given = given; roun
 module _ (p : ProgramData) (whole : IsWhole p) (t : Tables) (f : FuncId) (l : Location) (starts : List ℕ) (laid : AreLaidOut p starts) (looked : List Bool) (arrows : List Arrow)
     (ready : IsReady p t f starts looked arrows) (set grown closed : List Bool) (way : IsOnTheWay p f l starts set) (reach : Exactly (Reached arrows (has set)) (has grown))
     (closes : ClosesOnce p starts looked grown closed) where
-
   it_grows : Grows p f l starts way.base set grown
   it_grows =
       grows p whole t ready.points f l starts laid looked ready.exactly way.base set grown way.given

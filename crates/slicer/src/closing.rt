@@ -112,7 +112,15 @@ fn close_functions(
     ensures { IfOk result (λ _. ClosesOnce places.now.program.now places.now.starts.items looked.now grown.now set.new) }
 {
     'each: for f in 0..graphs.len() {
-        close_if(alloc, places, &graphs[f], looked[f], FuncId(f as u32), grown, set)?;
+        close_if(
+            alloc,
+            places,
+            &graphs[f],
+            looked[f],
+            FuncId(f as u32),
+            grown,
+            set,
+        )?;
     }
     Ok(())
 }

@@ -26,7 +26,7 @@ returns c =
     let size : length c.each.bits.items ≡ end_of p c.args.func = c.each.invariant.size ∙ done in
     let M : ℕ → Bool = λ k. marked p starts c.args.set.now (Kept c.args.func (node k)) in
     let all : (k : ℕ) → k < end_of p c.args.func → has c.each.bits.items k ≡ M k =
-        subst (λ (n : ℕ). (k : ℕ) → k < n → has c.each.bits.items k ≡ M k) done c.each.invariant.bits in
+    subst (λ (n : ℕ). (k : ℕ) → k < n → has c.each.bits.items k ≡ M k) done c.each.invariant.bits in
     record {
       len = omega (arith, ap length items, length-append c.each.bits.items (true ∷ []), size, graph_size p c.args.func);
       bits = subst (λ (xs : List Bool). (n : ℕ) → has xs n ≡ retained p c.args.func (items_of p starts c.args.set.now) n) (sym items)
