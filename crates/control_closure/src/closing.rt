@@ -70,7 +70,11 @@ fn is_added(graph: &Graph, retained: &[bool], mets: &[Met], node: usize) -> bool
 
 /// One closing round: the set with the nodes that part their ways. What each node meets first is found once for the whole round.
 /// It fails for want of memory alone.
-pub fn closing_round(alloc: Global, graph: &Graph, retained: &[bool]) -> Result<Vec<bool>, AllocError>
+pub fn closing_round(
+    alloc: Global,
+    graph: &Graph,
+    retained: &[bool],
+) -> Result<Vec<bool>, AllocError>
     requires graph { IsGraph graph.now.succ }
     requires size { length retained.now ≡ length graph.now.succ }
     requires small { length graph.now.succ < 2 ^ 32 }

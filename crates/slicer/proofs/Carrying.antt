@@ -149,17 +149,17 @@ effects_hold p whole t are f at' base g n =
     λ a. All-contains (Own p g) (used_alive x) a (All-from_recursion (Own p g) (used_alive x) (alive_reads (Own p g) x (node_reads p g n whole))) in (
       λ k. (n, k),
       both_each P (wanted_of g (reads x) ++ cells ++ lives_of alive) (input_if (reads_input x))
-      (both_each P (wanted_of g (reads x) ++ cells) (lives_of alive)
-      (both_each P (wanted_of g (reads x)) cells
-      (each_map (λ r. Wanted g r) P (reads x) (read_each (λ r. P (Wanted g r)) (operands_of x) (λ r there k. (n, k, there))))
-      (each_map (λ s. Needed (location.Cells s)) P (sites_if t g (read_through x))
-      (sites_each (λ s. P (Needed (location.Cells s))) t g (read_through x)
-      (λ a s e there k. slice.cells g n a s k e (sites_only p t are g a (read_reads (Own p g) x a (node_reads p g n whole) e) s there)))))
-      (each_map (λ s. Needed (location.Life s)) P alive
-      (each_flat_map (sites_of t g) (λ s. P (Needed (location.Life s))) (used_alive x)
-      (each_of (λ a. Each (λ s. P (Needed (location.Life s))) (sites_of t g a)) (used_alive x)
-      (λ a there. each_of (λ s. P (Needed (location.Life s))) (sites_of t g a) (λ s in' k. slice.lives g n a s k there (sites_only p t are g a (own a there) s in')))))))
-      (input_each P (reads_input x) (λ e k. slice.input g n k e)),
+          (both_each P (wanted_of g (reads x) ++ cells) (lives_of alive)
+          (both_each P (wanted_of g (reads x)) cells
+          (each_map (λ r. Wanted g r) P (reads x) (read_each (λ r. P (Wanted g r)) (operands_of x) (λ r there k. (n, k, there))))
+          (each_map (λ s. Needed (location.Cells s)) P (sites_if t g (read_through x))
+          (sites_each (λ s. P (Needed (location.Cells s))) t g (read_through x)
+          (λ a s e there k. slice.cells g n a s k e (sites_only p t are g a (read_reads (Own p g) x a (node_reads p g n whole) e) s there)))))
+          (each_map (λ s. Needed (location.Life s)) P alive
+          (each_flat_map (sites_of t g) (λ s. P (Needed (location.Life s))) (used_alive x)
+          (each_of (λ a. Each (λ s. P (Needed (location.Life s))) (sites_of t g a)) (used_alive x)
+          (λ a there. each_of (λ s. P (Needed (location.Life s))) (sites_of t g a) (λ s in' k. slice.lives g n a s k there (sites_only p t are g a (own a there) s in')))))))
+          (input_each P (reads_input x) (λ e k. slice.input g n k e)),
     )
 
 -- what it is retained for: a needed location that it changes

@@ -305,7 +305,7 @@ grown_looks p f at' base looks _ (slice.input g n h e) = tt
 grown_looks p f at' base looks _ (slice.calls g n callee m in' e h) = in'
 grown_looks p f at' base looks _ (slice.results g n m callee r k h reads' e is ret) = slice.calls g m callee (grown_looks p f at' base looks (Keep g n) h) e
 
-marked_has : (set : List Bool) (o : Option ℕ) → has_at set o ≡ true → (k : ℕ) × (o ≡ Some k) × (has set k ≡ true)
+pub marked_has : (set : List Bool) (o : Option ℕ) → has_at set o ≡ true → (k : ℕ) × (o ≡ Some k) × (has set k ≡ true)
 marked_has set None h = absurd (cc)
 marked_has set (Some k) h = (k, refl, h)
 
@@ -315,7 +315,6 @@ marked_own p starts set m h = let w = marked_has set (number p starts m) h in (p
 
 module _ (p : ProgramData) (t : Tables) (f : FuncId) (at' : Location) (base : Items) (starts : List ℕ) (looked set : List Bool) (full : IsFull p t f at' base starts looked set)
     (whole : IsWhole p) (are : ArePointsTo p t) where
-
   -- a node is retained for something of the set
   cause_step : (g : FuncId) (n : NodeId) → Looks p f g → n.0 < end_of p g → (m : Mark) → Contains (causes_of p t g n (node_at p g n)) m → marked p starts set m ≡ true
       → marked p starts set (Kept g n) ≡ true

@@ -5,3 +5,7 @@ pub mod ReachedLaws
 pub mod Places
 pub mod Facts
 pub mod Calls
+pub mod Graphs
+pub mod Closing
+pub mod Keeping
+pub mod Settling

@@ -6,7 +6,7 @@ ghost use Rattle.slices.specs.Slice.{Looks};
 ghost use Rattle.slicer.specs.Facts.{func as func_of};
 ghost use Rattle.slicer.specs.Calls as spec;
 
-use crate::reaching::{Arrow, reached};
+use crate::reaching::{Arrow, empty, reached};
 use flat_ir::{FuncId, Node, ProgramData};
 use mod_ref::callee;
 use plain_list::Sequence;
@@ -56,7 +56,7 @@ pub fn looked(alloc: Global, program: &ProgramData, f: FuncId) -> Result<Vec<boo
     ensures len { IfOk result (λ set. length set.items ≡ length program.now.funcs) }
 {
     let calls = calls(alloc, program)?;
-    let mut first = vec![in alloc; false; program.funcs.len()]?;
+    let mut first = empty(alloc, program.funcs.len())?;
     first[f.0 as usize] = true;
     reached(alloc, first.as_slice(), calls.as_slice())
 }

@@ -65,9 +65,24 @@ fn spot_of_location(program: &ProgramData, location: Location) -> Spot
             at: global as usize,
             limit: program.globals.len(),
         },
-        Location::Input => Spot { kind: 8, row, at: 0, limit: 3 },
-        Location::Output => Spot { kind: 8, row, at: 1, limit: 3 },
-        Location::Result => Spot { kind: 8, row, at: 2, limit: 3 },
+        Location::Input => Spot {
+            kind: 8,
+            row,
+            at: 0,
+            limit: 3,
+        },
+        Location::Output => Spot {
+            kind: 8,
+            row,
+            at: 1,
+            limit: 3,
+        },
+        Location::Result => Spot {
+            kind: 8,
+            row,
+            at: 2,
+            limit: 3,
+        },
     }
 }
 

@@ -1,5 +1,5 @@
 //! What follows from given numbers.
-ghost use Rattle.std.specs.Prelude.{◌≡◌, ◌<◌, true, length, IfOk, vec_len};
+ghost use Rattle.std.specs.Prelude.{◌≡◌, ◌<◌, true, false, length, replicate, IfOk, vec_len};
 ghost use Rattle.least.specs.Sets.{has, Exactly, Only, Within};
 ghost use Rattle.slicer.specs.Reached.{Reached, AreWithin, FollowsAt};
 
@@ -87,6 +87,13 @@ impl<'a> Rules for Follows<'a> {
     ghost more = { λ f rule S T U V. Fires-more f.arrows.now f.given.now rule S T U V };
 
     ghost least = { λ f fits S fires k. Reached-least f.arrows.now f.given.now S fires k };
+}
+
+/// The empty set of the numbers below a size.
+pub fn empty(alloc: Global, size: usize) -> Result<Vec<bool>, AllocError>
+    ensures { IfOk result (λ set. set.items ≡ replicate size false) }
+{
+    vec![in alloc; false; size]
 }
 
 /// The numbers that are given, and those that follow from them.

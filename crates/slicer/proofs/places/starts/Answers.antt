@@ -15,7 +15,7 @@ each-preserved c =
     let xs : List ℕ = c.each.starts.items in
     let t : ℕ = c.in_ok-total.total in
     let there : slice_get p.funcs c.each.f ≡ Some c.index-funcs-f.result =
-        slice_get_read p.funcs (length p.funcs) c.each.f c.index-funcs-f.result (omega arith) (omega (arith, ap length c.as_slice-funcs.ensures, c.each-test.true))
+    slice_get_read p.funcs (length p.funcs) c.each.f c.index-funcs-f.result (omega arith) (omega (arith, ap length c.as_slice-funcs.ensures, c.each-test.true))
     (c.index-funcs-f.is ∙ ap (λ (fs : List Func). get_or fs c.each.f c.index-funcs-f.result) c.as_slice-funcs.ensures) in
     let nodes : end_of p (record { 0 = c.each.f }) ≡ length c.index-funcs-f.result.nodes = ap (λ (o : Option Func). length (nodes_of o)) there in
     let regs : length (regs_of (func_at p (record { 0 = c.each.f }))) ≡ length c.index-funcs-f.result.regs = ap (λ (o : Option Func). length (regs_of o)) there in
