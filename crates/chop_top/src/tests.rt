@@ -177,6 +177,7 @@ fn words_and_texts(rt: HostRuntime) -> Result<(), Fail> {
     let all = ["explore", "--input", "0", "F"].as_slice();
     let one = ["explore", "--input", "1", "F"].as_slice();
     let print = ["print", "F"].as_slice();
+    let run = ["run", "--hex", "-", "--steps", "1000", "F"].as_slice();
     for (words, text, status, written) in [
         (all, RETURNS_ZERO, Status::Done, REPORT),
         (all, RETURNS_LEAST, Status::Done, REPORT_OF_LEAST),
@@ -210,6 +211,12 @@ fn words_and_texts(rt: HostRuntime) -> Result<(), Fail> {
             "refused Unsupported at=26 ptrtoint\n",
         ),
         (all, LOGGER, Status::Refused, "refused NotBuilt\n"),
+        (
+            run,
+            LOGGER,
+            Status::Done,
+            "complete status=1 output=3221 steps=101\n",
+        ),
         (print, RETURNS_ZERO, Status::Done, PRINT_OF_ZERO),
         (print, PRINT_OF_ZERO, Status::Done, PRINT_OF_ZERO),
         (all, FORK, Status::Done, FORK_WITHOUT_INPUT),

@@ -213,7 +213,9 @@ fn judged(alloc: Global, command: &Command, bytes: &[u8]) -> Answer
         Command::Print { .. } => printed(alloc, bytes),
         Command::Sites { .. } => sited(alloc, bytes),
         Command::Slice {
-            function, location, ..
+            function,
+            location,
+            ..
         } => sliced(alloc, bytes, function.as_str(), location.as_str()),
     }
 }

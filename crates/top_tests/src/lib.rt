@@ -1,4 +1,4 @@
-//! Tests of the top call over every layer below it: each refusal, and the lines of sites and switches.
+//! Tests of the top call over every layer below it: each refusal, and the lines of sites, switches, runs and slices.
 #![tactic(auto)]
 
 #[cfg(test)]
@@ -7,3 +7,7 @@ mod refusals;
 mod reports;
 #[cfg(test)]
 mod running;
+#[cfg(test)]
+mod runs;
+#[cfg(test)]
+mod slices;
