@@ -10,4 +10,4 @@ mod running;
 #[cfg(test)]
 mod runs;
 #[cfg(test)]
-mod slices;
+mod slicing;
