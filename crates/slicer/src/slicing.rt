@@ -13,6 +13,7 @@ ghost use Rattle.slicer.specs.Locations.{IsLocationOf};
 ghost use Rattle.slicer.specs.Places.{size_of};
 ghost use Rattle.slicer.specs.Reached.{AreWithin};
 ghost use Rattle.slicer.specs.Settling as spec;
+ghost use Rattle.slicer.specs.Simulating.{Simulates};
 ghost use Rattle.slicer.specs.Settling.{IsFound, IsReady, nothing};
 
 use crate::closing::{close_once, mark_if};
@@ -24,7 +25,7 @@ use crate::marks::Mark;
 use crate::places::Places;
 use crate::reaching::{Arrow, empty, reached};
 use control_closure::Graph;
-use flat_ir::{FuncId, Location, Program, Residual};
+use flat_ir::{FuncId, Location, Program, ProgramData, Residual};
 use least::count;
 use points_to::PointsTo;
 use std::alloc::{AllocError, Global};
@@ -88,21 +89,20 @@ fn settled(
     }
 }
 
-/// The slice of a function for a location: what is retained of each function of the program, and where a run of that goes on. The sets are those of the program,
-/// the function and the location are the program's. It fails for want of memory alone.
-pub fn slice(
+/// The slice of a function for a location.
+fn sliced(
     alloc: Global,
-    program: &Program,
+    parts: &ProgramData,
     sets: &PointsTo,
     f: FuncId,
     at: Location,
 ) -> Result<Residual, AllocError>
-    requires sets { ArePointsTo program.now sets.now }
-    requires func { f.0 < length program.now.funcs }
-    requires at { IsLocationOf program.now at }
-    ensures { IfOk result (λ residual. IsResidual program.now f at residual) }
+    requires whole { IsWhole parts.now }
+    requires sets { ArePointsTo parts.now sets.now }
+    requires func { f.0 < length parts.now.funcs }
+    requires at { IsLocationOf parts.now at }
+    ensures { IfOk result (λ residual. IsResidual parts.now f at residual) }
 {
-    let parts = program.parts();
     let looked = looked(alloc, parts, f)?;
     let links = links(alloc, parts, sets, looked.as_slice())?;
     let places = Places::new(alloc, parts)?;
@@ -119,4 +119,22 @@ pub fn slice(
     )?;
     let funcs = kept(alloc, &places, graphs.as_slice(), set.as_slice())?;
     Ok(Residual { funcs })
+}
+
+/// The slice of a function for a location: what is retained of each function of the program, and where a run of that goes on. The sets are those of the program,
+/// the function and the location are the program's. A run that goes by the slice simulates each call of the function that ends. It fails for want of memory alone.
+pub fn slice(
+    alloc: Global,
+    program: &Program,
+    sets: &PointsTo,
+    f: FuncId,
+    at: Location,
+) -> Result<Residual, AllocError>
+    requires sets { ArePointsTo program.now sets.now }
+    requires func { f.0 < length program.now.funcs }
+    requires at { IsLocationOf program.now at }
+    ensures exact { IfOk result (λ residual. IsResidual program.now f at residual) }
+    ensures simulates { IfOk result (λ residual. Simulates program.now f at residual) }
+{
+    sliced(alloc, program.parts(), sets, f, at)
 }
