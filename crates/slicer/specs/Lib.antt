@@ -9,3 +9,4 @@ pub mod Graphs
 pub mod Closing
 pub mod Keeping
 pub mod Settling
+pub mod Sample
