@@ -10,3 +10,4 @@ pub mod Closing
 pub mod Keeping
 pub mod Settling
 pub mod Simulating
+pub mod Sample

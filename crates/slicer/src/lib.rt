@@ -11,5 +11,7 @@ mod nodes;
 mod places;
 mod reaching;
 mod slicing;
+#[cfg(test)]
+mod tests;
 
 pub use slicing::slice;
