@@ -28,7 +28,7 @@ use Rattle.flat_ir.specs.Effects.{written_in, stored_in, freed_in}
 use Rattle.flat_ir.specs.Registers.{null, zero_of, bytes_of_type, bytes_of_value}
 use Rattle.flat_ir.specs.Machine.{Frame, State, Run, On, Over, func_at, regs_of, nodes_of, node_at, value_in, made_here, start, counted, set_if, at_node}
 use Rattle.flat_ir.specs.Steps.{attempt, unless, gives, gives_if, gives_loaded, to, with_frame, with_history, number_in, address_in, division_fault, access_fault, free_fault, bit, related, cast_to, width_of, moved_by_all, new_here, allocated, loaded, byte_there, next_byte, set_all, case_of, branches, returns, ended, frees_at, frees_of_node, frees_from, call_next, call_result, set_result}
-use Rattle.flat_ir.specs.Run.{step, run, goes_on, step-attempt, run-zero, run-suc}
+use Rattle.flat_ir.specs.Run.{run, goes_on, step-attempt, run-zero, run-suc}
 use Rattle.flat_ir.specs.Whole.{IsWhole, IsWidth, IsFuncOf, operands_of}
 use Rattle.flat_ir.proofs.MadeBasics.{both, each_map, each_append, each_reverse, each_set, each_read}
 use Rattle.flat_ir.proofs.MadeKept.{with_place}

@@ -1,5 +1,6 @@
 pub mod Bytes
 pub mod Checked
+pub mod Counted
 pub mod Fitted
 pub mod Numbers
 pub mod Runs

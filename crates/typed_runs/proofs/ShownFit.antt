@@ -1,7 +1,7 @@
 -- Each value that a run shows fits.
 use Rattle.std.specs.Prelude.{nat_lt, All, ◌==◌, if◌then◌else◌}
 use Rattle.std.specs.Option.{option_map}
-use Rattle.std.proofs.Common.{ℕ, zero, suc, ◌<◌, true, false, ◌&&◌, List, [], ◌∷◌, ◌++◌, Option, Some, None}
+use Rattle.std.proofs.Common.{ℕ, zero, suc, ◌<◌, true, false, List, [], ◌∷◌, ◌++◌, Option, Some, None}
 use Rattle.std.specs.List.{AllByRecursion as Each}
 use Rattle.bitnum.specs.Operations.{applied}
 use Rattle.checks.specs.Errors.{IsChecked}
@@ -21,11 +21,11 @@ use Rattle.flat_ir.specs.Effects.{written_in, stored_in, freed_in}
 use Rattle.flat_ir.specs.Registers.{null, bytes_of_type, bytes_of_value}
 use Rattle.flat_ir.specs.Machine.{Event, Branched, Loaded, Entered, Returned, Frame, State, Run, On, Over, state_of, func_at, regs_of, node_at, type_at, value_in, counted}
 use Rattle.flat_ir.specs.Steps.{attempt, unless, gives, gives_if, gives_loaded, to, with_frame, with_history, number_in, address_in, division_fault, access_fault, free_fault, new_here, allocated, loaded, byte_there, case_of, branches, returns, ended}
-use Rattle.flat_ir.specs.Run.{step, run, goes_on, step-attempt, run-zero, run-suc}
+use Rattle.flat_ir.specs.Run.{run, goes_on, step-attempt, run-zero, run-suc}
 use Rattle.flat_ir.specs.Whole.{IsWhole}
 use Rattle.flat_ir.proofs.MadeBasics.{both, each_append}
-use Rattle.typed_runs.specs.TypedRuns.{IsTyped, RunIsTyped}
-use Rattle.typed_runs.specs.FittingRuns.{NumbersFit, IsFitting, RunIsFitting}
+use Rattle.typed_runs.specs.TypedRuns.{RunIsTyped}
+use Rattle.typed_runs.specs.FittingRuns.{NumbersFit, RunIsFitting}
 use Rattle.typed_runs.specs.Shown.{OptionFits, EventFits}
 use Rattle.typed_runs.specs.Laws.{TracesFit}
 use Rattle.typed_runs.proofs.Runs.{run_typed}

@@ -19,8 +19,8 @@ use Rattle.flat_ir.specs.declared.values.ConcreteValue.TheVariants.{Int, Ptr}
 use Rattle.flat_ir.specs.declared.values.FaultKind.{FaultKind}
 use Rattle.flat_ir.specs.Registers.{null, first_of, bytes_of_type, bytes_of_value}
 use Rattle.flat_ir.specs.Effects.{written_in, stored_in, freed_in}
-use Rattle.flat_ir.specs.Machine.{Event, Branched, Loaded, Entered, Returned, Frame, State, Run, On, Over, state_of, func_at, node_at, type_at, value_in, start, counted, set, set_if, at_node}
-use Rattle.flat_ir.specs.Steps.{attempt, unless, gives, gives_if, gives_loaded, to, with_frame, with_history, number_in, address_in, division_fault, access_fault, free_fault, new_here, allocated, loaded, byte_there, set_all, case_of, branches, calls, returns, ended, call_next, call_result, set_result}
+use Rattle.flat_ir.specs.Machine.{Event, Branched, Loaded, Entered, Returned, Frame, State, Run, On, Over, state_of, func_at, node_at, type_at, value_in, counted, set, set_if, at_node}
+use Rattle.flat_ir.specs.Steps.{attempt, unless, gives, gives_if, gives_loaded, to, with_frame, with_history, number_in, address_in, division_fault, access_fault, free_fault, new_here, allocated, loaded, byte_there, set_all, case_of, branches, returns, ended, call_next, call_result, set_result}
 use Rattle.flat_ir.specs.Run.{step, run, goes_on, step-attempt, run-zero, run-suc}
 use Rattle.typed_runs.specs.TypedRuns.{IsTyped, RunIsTyped}
 use Rattle.typed_runs.specs.Shown.{IsGiven, IsLoadOf, ShowTypes}

@@ -1,5 +1,5 @@
 -- What is so of each run of a program that passed its checks.
-use Rattle.std.specs.Prelude.{◌≡◌, ℕ, ◌<◌, true, List, [], All}
+use Rattle.std.specs.Prelude.{◌≡◌, ℕ, suc, ◌<◌, true, List, [], All}
 use Rattle.std.specs.List.{AllByRecursion as Each}
 use Rattle.checks.specs.Errors.{IsChecked}
 use Rattle.checks.specs.Types.{type_of}
@@ -13,6 +13,7 @@ use Rattle.flat_ir.specs.Run.{step, run, trace}
 use Rattle.flat_ir.specs.Whole.{IsWhole}
 use Rattle.typed_runs.specs.TypedRuns.{HasType, HoldsTypes, IsTyped, RunIsTyped}
 use Rattle.typed_runs.specs.FittingRuns.{NumbersFit, IsFitting, RunIsFitting}
+use Rattle.typed_runs.specs.Counting.{StateCountsTo, RunCountsTo}
 use Rattle.typed_runs.specs.Shown.{ShowTypes, EventFits}
 use Rattle.typed_runs.specs.Suiting.{Suits, result_of}
 
@@ -55,3 +56,11 @@ StepsKeepFitting = (p : ProgramData) (input : List ℕ) (s : State) → IsWhole 
 abbrev pub TracesFit : Type 0
 TracesFit = (p : ProgramData) (input : List ℕ) (n : ℕ) → IsWhole p → IsChecked p.funcs → NumbersFit p → All (λ b. b < 256) input
     → Each EventFits (trace p input n)
+
+-- in n steps each frame has executed each node at most n times
+abbrev pub RunsCount : Type 0
+RunsCount = (p : ProgramData) (input : List ℕ) (n : ℕ) → RunCountsTo n (run p input n)
+
+-- in a step at most once more
+abbrev pub StepsCount : Type 0
+StepsCount = (p : ProgramData) (input : List ℕ) (n : ℕ) (s : State) → StateCountsTo n s → RunCountsTo (suc n) (step p input s)

@@ -1,3 +1,4 @@
+pub mod Counting
 pub mod FittingRuns
 pub mod Laws
 pub mod Shown

@@ -4,7 +4,7 @@
 
 mod constants;
 
-ghost use Rattle.typed_runs.specs.Laws.{NodesAreTyped, OperandsAreTyped, RunsAreTyped, RunsFit, StepsKeepFitting, StepsKeepTypes, TracesAreTyped, TracesFit, TypedFramesSuit};
+ghost use Rattle.typed_runs.specs.Laws.{NodesAreTyped, OperandsAreTyped, RunsAreTyped, RunsCount, RunsFit, StepsCount, StepsKeepFitting, StepsKeepTypes, TracesAreTyped, TracesFit, TypedFramesSuit};
 
 pub use constants::numbers_fit;
 
@@ -51,4 +51,14 @@ pub fn steps_keep_fitting()
 /// So it is with each value that such a run shows.
 pub fn traces_fit()
     ensures { TracesFit }
+{}
+
+/// After n steps of any program each frame has executed each of its nodes at most n times.
+pub fn runs_count()
+    ensures { RunsCount }
+{}
+
+/// A step executes a node at most once more, whatever the state.
+pub fn steps_count()
+    ensures { StepsCount }
 {}
