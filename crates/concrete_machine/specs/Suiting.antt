@@ -19,6 +19,7 @@ use Rattle.flat_ir.specs.MadeNames.{count_at, is_alloca, object_of}
 use Rattle.flat_ir.specs.Registers.{number, bytes_of_type, bytes_of_value}
 use Rattle.flat_ir.specs.Steps.{width_of}
 use Rattle.flat_ir.specs.Whole.{IsWidth}
+use Rattle.typed_runs.specs.Suiting.{AreAlike, TakesBytes, IsNumbers}
 use Rattle.concrete_memory.specs.declared.objects.Store.{Store}
 use Rattle.concrete_memory.specs.Standing.{StandsFor, IsNew}
 use Rattle.concrete_machine.specs.declared.machine.Machine.{Machine}
@@ -27,21 +28,6 @@ use Rattle.concrete_machine.specs.Frames.{frame_of}
 -- the number of an operand in the machine's frame
 abbrev pub number_here : Machine → Operand → Number
 number_here m a = number (value_in (frame_of m.frame) a)
-
--- two numbers have one width
-abbrev pub AreAlike : ConcreteValue → ConcreteValue → Type 0
-AreAlike (Int a) (Int b) = a.width ≡ b.width
-AreAlike (Int a) (Ptr b) = Unit {0}
-AreAlike (Ptr a) b = Unit {0}
-
--- a type whose values have a byte at least
-pub record TakesBytes (t : RegType) : Type 0 where
-  pub width : IsWidth t
-  pub some : 1 ≤ bytes_of_type t
-
--- a type of so many bits as a number may have
-abbrev pub IsNumbers : RegType → Type 0
-IsNumbers t = IsWidth (type.Int (width_of t))
 
 -- the history has made what the frame's Alloca nodes made
 abbrev pub HasMade : ProgramData → History → run.Frame → Type 0

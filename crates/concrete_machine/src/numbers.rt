@@ -9,7 +9,8 @@ ghost use Rattle.flat_ir.specs.Steps as spec;
 ghost use Rattle.flat_ir.specs.declared.program.ProgramData.{ProgramData};
 ghost use Rattle.concrete_machine.specs.Frames.{frame_of};
 ghost use Rattle.concrete_machine.specs.Standing.{Attempts, AttemptsAnywhere};
-ghost use Rattle.concrete_machine.specs.Suiting.{number_here, AreAlike, IsNumbers};
+ghost use Rattle.concrete_machine.specs.Suiting.{number_here};
+ghost use Rattle.typed_runs.specs.Suiting.{AreAlike, IsNumbers};
 
 use crate::frames::{number_of, type_at, value_of};
 use crate::machine::{Frame, Led, Machine};
