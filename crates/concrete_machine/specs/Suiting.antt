@@ -6,19 +6,14 @@ use Rattle.flat_ir.specs.declared.names.NodeId.{NodeId}
 use Rattle.flat_ir.specs.declared.nodes.Node.{Node}
 use Rattle.flat_ir.specs.declared.nodes.Node.TheVariants as node
 use Rattle.flat_ir.specs.declared.nodes.Operand.{Operand}
-use Rattle.flat_ir.specs.declared.nodes.RegType.{RegType}
-use Rattle.flat_ir.specs.declared.nodes.RegType.TheVariants as type
 use Rattle.flat_ir.specs.declared.program.ProgramData.{ProgramData}
-use Rattle.flat_ir.specs.declared.values.ConcreteValue.{ConcreteValue}
-use Rattle.flat_ir.specs.declared.values.ConcreteValue.TheVariants.{Int, Ptr}
 use Rattle.flat_ir.specs.History.{History}
 use Rattle.flat_ir.specs.Orderly.{is_made}
 use Rattle.flat_ir.specs.Machine as run
 use Rattle.flat_ir.specs.Machine.{node_at, type_at, value_in, made_here}
 use Rattle.flat_ir.specs.MadeNames.{count_at, is_alloca, object_of}
-use Rattle.flat_ir.specs.Registers.{number, bytes_of_type, bytes_of_value}
+use Rattle.flat_ir.specs.Registers.{number, bytes_of_value}
 use Rattle.flat_ir.specs.Steps.{width_of}
-use Rattle.flat_ir.specs.Whole.{IsWidth}
 use Rattle.typed_runs.specs.Suiting.{AreAlike, TakesBytes, IsNumbers}
 use Rattle.concrete_memory.specs.declared.objects.Store.{Store}
 use Rattle.concrete_memory.specs.Standing.{StandsFor, IsNew}
