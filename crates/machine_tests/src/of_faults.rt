@@ -12,18 +12,17 @@ fn faults(
     steps: u64,
 ) -> bool {
     match end {
-        Some(RunEnd::Ended {
-            outcome:
-                Outcome::Fault {
+        Some(
+            RunEnd::Ended {
+                outcome: Outcome::Fault {
                     kind,
                     func,
                     node,
                     output: written,
                 },
-            steps: done,
-        }) => {
-            (*kind, *func, *node) == at && written.as_slice() == output && *done == steps
-        }
+                steps: done,
+            },
+        ) => { (*kind, *func, *node) == at && written.as_slice() == output && *done == steps }
         _ => false,
     }
 }
@@ -58,13 +57,41 @@ fn each_fault_is_told_with_its_node(rt: HostRuntime) -> Result<(), Fail> {
         ("%a = srem i8 3, 0\n", FaultKind::DivideByZero, 0),
         ("%a = sdiv i8 -128, -1\n", FaultKind::DivideOverflow, 0),
         ("%a = load i32, ptr null\n", FaultKind::NullAccess, 0),
-        ("%p = alloca i32\n%q = getelementptr i32, ptr %p, i64 1\nstore i8 1, ptr %q\n", FaultKind::OutOfBounds, 2),
-        ("%p = getelementptr i8, ptr @g, i64 -1\n%a = load i8, ptr %p\n", FaultKind::OutOfBounds, 1),
-        ("%p = alloca ptr\nstore ptr %p, ptr %p\nstore i8 1, ptr %p\n%a = load ptr, ptr %p\n", FaultKind::MixedBytes, 3),
-        ("%p = alloca i32\ncall void @free(ptr %p)\n", FaultKind::BadFree, 1),
-        ("%p = call ptr @malloc(i64 8)\n%q = getelementptr i8, ptr %p, i64 4\ncall void @free(ptr %q)\n", FaultKind::BadFree, 2),
-        ("%p = call ptr @malloc(i64 8)\ncall void @free(ptr %p)\ncall void @free(ptr %p)\n", FaultKind::UseAfterFree, 2),
-        ("call void @__assert_fail(ptr null, ptr null, i32 1, ptr null)\n", FaultKind::Assert, 0),
+        (
+            "%p = alloca i32\n%q = getelementptr i32, ptr %p, i64 1\nstore i8 1, ptr %q\n",
+            FaultKind::OutOfBounds,
+            2,
+        ),
+        (
+            "%p = getelementptr i8, ptr @g, i64 -1\n%a = load i8, ptr %p\n",
+            FaultKind::OutOfBounds,
+            1,
+        ),
+        (
+            "%p = alloca ptr\nstore ptr %p, ptr %p\nstore i8 1, ptr %p\n%a = load ptr, ptr %p\n",
+            FaultKind::MixedBytes,
+            3,
+        ),
+        (
+            "%p = alloca i32\ncall void @free(ptr %p)\n",
+            FaultKind::BadFree,
+            1,
+        ),
+        (
+            "%p = call ptr @malloc(i64 8)\n%q = getelementptr i8, ptr %p, i64 4\ncall void @free(ptr %q)\n",
+            FaultKind::BadFree,
+            2,
+        ),
+        (
+            "%p = call ptr @malloc(i64 8)\ncall void @free(ptr %p)\ncall void @free(ptr %p)\n",
+            FaultKind::UseAfterFree,
+            2,
+        ),
+        (
+            "call void @__assert_fail(ptr null, ptr null, i32 1, ptr null)\n",
+            FaultKind::Assert,
+            0,
+        ),
         ("call void @abort()\n", FaultKind::Abort, 0),
     ];
     for (body, kind, node) in cases {

@@ -23,14 +23,15 @@ pub(crate) fn ended(
 // Whether a run ended so.
 fn exits(end: &Option<RunEnd>, status: u8, output: &[u8], steps: u64) -> bool {
     match end {
-        Some(RunEnd::Ended {
-            outcome:
-                Outcome::Exit {
+        Some(
+            RunEnd::Ended {
+                outcome: Outcome::Exit {
                     status: ended,
                     output: written,
                 },
-            steps: done,
-        }) => *ended == status && written.as_slice() == output && *done == steps,
+                steps: done,
+            },
+        ) => *ended == status && written.as_slice() == output && *done == steps,
         _ => false,
     }
 }
@@ -101,7 +102,14 @@ define i32 @main() {
 
 #[test]
 fn bytes_are_copied_and_written(rt: HostRuntime) -> Result<(), Fail> {
-    assert!(rt; exits(&ended(rt.alloc(), COPY, &[], 1000)?, 0, &[97, 98, 99, 10], 72));
+    assert!(rt;
+        exits(
+            &ended(rt.alloc(), COPY, &[], 1000)?,
+            0,
+            &[97, 98, 99, 10],
+            72
+        )
+    );
     Ok(())
 }
 
