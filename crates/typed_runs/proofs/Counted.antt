@@ -4,7 +4,6 @@ use Rattle.std.specs.Option.{option_map}
 use Rattle.std.proofs.Common.{ℕ, zero, suc, ◌+◌, true, false, List, [], ◌∷◌, Option, Some, None, arith}
 use Rattle.std.specs.List.{AllByRecursion as Each}
 use Rattle.bitnum.specs.Operations.{applied}
-use Rattle.flat_ir.specs.declared.names.FuncId.{FuncId}
 use Rattle.flat_ir.specs.declared.names.NodeId.{NodeId}
 use Rattle.flat_ir.specs.declared.names.RegId.{RegId}
 use Rattle.flat_ir.specs.declared.nodes.MoveSet.{MoveSet}
@@ -16,9 +15,9 @@ use Rattle.flat_ir.specs.declared.values.ConcreteValue.TheVariants.{Int, Ptr}
 use Rattle.flat_ir.specs.declared.values.FaultKind.{FaultKind}
 use Rattle.flat_ir.specs.Effects.{written_in, stored_in, freed_in}
 use Rattle.flat_ir.specs.Registers.{null, bytes_of_type, bytes_of_value}
-use Rattle.flat_ir.specs.Machine.{Frame, State, Run, On, Over, func_at, nodes_of, node_at, type_at, value_in, count_here, counted, set, set_if, at_node, start}
+use Rattle.flat_ir.specs.Machine.{Frame, State, Run, On, Over, func_at, nodes_of, node_at, type_at, value_in, count_here, counted, set, set_if, at_node}
 use Rattle.flat_ir.specs.Steps.{attempt, unless, gives, gives_if, gives_loaded, to, with_frame, with_history, number_in, address_in, division_fault, access_fault, free_fault, new_here, allocated, loaded, byte_there, set_all, branches, returns, ended, call_next, call_result, set_result}
-use Rattle.flat_ir.specs.Run.{step, run, goes_on, step-attempt, run-zero, run-suc}
+use Rattle.flat_ir.specs.Run.{run, goes_on, step-attempt, run-zero, run-suc}
 use Rattle.flat_ir.proofs.MadeBasics.{each_map, each_read, each_set}
 use Rattle.typed_runs.specs.Counting.{CountsTo, StateCountsTo, RunCountsTo}
 use Rattle.typed_runs.specs.Laws.{RunsCount, StepsCount}
