@@ -5,6 +5,4 @@ pub mod Numbered
 pub mod Runs
 pub mod Stepped
 pub mod Suited
-pub mod TypedRuns
-pub mod TypedValues
 pub mod Written

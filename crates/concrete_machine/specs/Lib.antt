@@ -6,4 +6,3 @@ pub mod Making
 pub mod Ending
 pub mod Stepping
 pub mod Suiting
-pub mod Typing

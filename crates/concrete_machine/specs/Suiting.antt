@@ -1,25 +1,20 @@
 -- What a machine has to have for the node that it attempts. In a program that passed its checks it has this at each step.
-use Rattle.std.specs.Prelude.{◌≡◌, ℕ, ◌≤◌, true, List}
+use Rattle.std.specs.Prelude.{◌≡◌, ℕ, ◌≤◌, true}
 use Rattle.bitnum.specs.Number.{Number}
 use Rattle.checks.specs.Types.{resizes}
 use Rattle.flat_ir.specs.declared.names.NodeId.{NodeId}
-use Rattle.flat_ir.specs.declared.names.RegId.{RegId}
 use Rattle.flat_ir.specs.declared.nodes.Node.{Node}
 use Rattle.flat_ir.specs.declared.nodes.Node.TheVariants as node
 use Rattle.flat_ir.specs.declared.nodes.Operand.{Operand}
-use Rattle.flat_ir.specs.declared.nodes.RegType.{RegType}
-use Rattle.flat_ir.specs.declared.nodes.RegType.TheVariants as type
 use Rattle.flat_ir.specs.declared.program.ProgramData.{ProgramData}
-use Rattle.flat_ir.specs.declared.values.ConcreteValue.{ConcreteValue}
-use Rattle.flat_ir.specs.declared.values.ConcreteValue.TheVariants.{Int, Ptr}
 use Rattle.flat_ir.specs.History.{History}
 use Rattle.flat_ir.specs.Orderly.{is_made}
 use Rattle.flat_ir.specs.Machine as run
 use Rattle.flat_ir.specs.Machine.{node_at, type_at, value_in, made_here}
 use Rattle.flat_ir.specs.MadeNames.{count_at, is_alloca, object_of}
-use Rattle.flat_ir.specs.Registers.{number, bytes_of_type, bytes_of_value}
+use Rattle.flat_ir.specs.Registers.{number, bytes_of_value}
 use Rattle.flat_ir.specs.Steps.{width_of}
-use Rattle.flat_ir.specs.Whole.{IsWidth}
+use Rattle.typed_runs.specs.Suiting.{AreAlike, TakesBytes, IsNumbers}
 use Rattle.concrete_memory.specs.declared.objects.Store.{Store}
 use Rattle.concrete_memory.specs.Standing.{StandsFor, IsNew}
 use Rattle.concrete_machine.specs.declared.machine.Machine.{Machine}
@@ -28,21 +23,6 @@ use Rattle.concrete_machine.specs.Frames.{frame_of}
 -- the number of an operand in the machine's frame
 abbrev pub number_here : Machine → Operand → Number
 number_here m a = number (value_in (frame_of m.frame) a)
-
--- two numbers have one width
-abbrev pub AreAlike : ConcreteValue → ConcreteValue → Type 0
-AreAlike (Int a) (Int b) = a.width ≡ b.width
-AreAlike (Int a) (Ptr b) = Unit {0}
-AreAlike (Ptr a) b = Unit {0}
-
--- a type whose values have a byte at least
-pub record TakesBytes (t : RegType) : Type 0 where
-  pub width : IsWidth t
-  pub some : 1 ≤ bytes_of_type t
-
--- a type of so many bits as a number may have
-abbrev pub IsNumbers : RegType → Type 0
-IsNumbers t = IsWidth (type.Int (width_of t))
 
 -- the history has made what the frame's Alloca nodes made
 abbrev pub HasMade : ProgramData → History → run.Frame → Type 0

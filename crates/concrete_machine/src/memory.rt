@@ -11,7 +11,7 @@ ghost use Rattle.concrete_memory.specs.Standing.{IsNew};
 ghost use Rattle.concrete_machine.specs.Frames.{frame_of, state_with};
 ghost use Rattle.concrete_machine.specs.Standing.{Attempts, AttemptsAnywhere};
 ghost use Rattle.concrete_machine.specs.Making.{Makes};
-ghost use Rattle.concrete_machine.specs.Suiting.{TakesBytes};
+ghost use Rattle.typed_runs.specs.Suiting.{TakesBytes};
 
 use crate::frames::{address_of, null, number_of, step_here, type_at, value_of};
 use crate::machine::{Frame, Led, Machine};

@@ -9,12 +9,15 @@ ghost use Rattle.flat_ir.specs.Steps as spec;
 ghost use Rattle.flat_ir.specs.declared.program.ProgramData.{ProgramData};
 ghost use Rattle.concrete_machine.specs.Frames.{frame_of};
 ghost use Rattle.concrete_machine.specs.Standing.{Attempts, AttemptsAnywhere};
-ghost use Rattle.concrete_machine.specs.Suiting.{number_here, AreAlike, IsNumbers};
+ghost use Rattle.concrete_machine.specs.Suiting.{number_here};
+ghost use Rattle.typed_runs.specs.Suiting.{AreAlike, IsNumbers};
 
 use crate::frames::{number_of, type_at, value_of};
 use crate::machine::{Frame, Led, Machine};
 use bitnum::{BinOp, Num, Pred, apply, compare, divide, sext, trunc, zext};
-use flat_ir::{Address, CastOp, ConcreteValue, FaultKind, NodeId, Operand, ProgramData, RegId, RegType};
+use flat_ir::{
+    Address, CastOp, ConcreteValue, FaultKind, NodeId, Operand, ProgramData, RegId, RegType,
+};
 use std::alloc::AllocError;
 
 // The fault of a quotient by 0.
