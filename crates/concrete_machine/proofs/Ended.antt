@@ -1,25 +1,22 @@
 -- What the end of a frame leaves.
 use Rattle.std.specs.Prelude.{map, min, reverse, slice_get, unwrap_or}
 use mathlib.Core.List.{reverse_aux}
-use Rattle.std.specs.declared.alloc.Global.{Global}
 use Rattle.std.specs.List.{AllByRecursion as Each}
-use Rattle.std.proofs.Common.{◌≡◌, ℕ, zero, suc, ◌+◌, ◌<◌, ◌≤◌, true, List, [], ◌∷◌, ◌++◌, length, take, get_or, Option, Some, None, IsSome, Vec, refl, sym, ◌∙◌, ap, subst, arith, add-zero, length-take}
+use Rattle.std.proofs.Common.{◌≡◌, ℕ, zero, suc, ◌+◌, ◌<◌, ◌≤◌, true, List, [], ◌∷◌, ◌++◌, length, take, get_or, Option, Some, None, IsSome, refl, sym, ◌∙◌, ap, subst, arith, add-zero, length-take}
 use Rattle.flat_ir.specs.declared.names.CallStep.{CallStep}
 use Rattle.flat_ir.specs.declared.names.NodeId.{NodeId}
-use Rattle.flat_ir.specs.declared.names.ObjectName.{ObjectName}
-use Rattle.flat_ir.specs.declared.names.ObjectName.TheVariants.{Global as OfGlobal, Made}
+use Rattle.flat_ir.specs.declared.names.ObjectName.TheVariants.{Made}
 use Rattle.flat_ir.specs.declared.nodes.Node.{Node}
 use Rattle.flat_ir.specs.declared.nodes.Node.TheVariants as node
 use Rattle.flat_ir.specs.declared.program.ProgramData.{ProgramData}
 use Rattle.flat_ir.specs.History.{History, Change, Write, Alloc, Free, Get, Put, position, output}
 use Rattle.flat_ir.specs.Orderly.{is_made}
 use Rattle.flat_ir.specs.Machine as run
-use Rattle.flat_ir.specs.MadeNames.{count_at, is_alloca, object_of}
+use Rattle.flat_ir.specs.MadeNames.{count_at, object_of}
 use Rattle.flat_ir.specs.Steps.{frees_of_node, frees_at, frees_from}
 use Rattle.flat_ir.proofs.MadeBasics.{each_append}
 use Rattle.concrete_memory.specs.declared.objects.Store.{Store}
 use Rattle.concrete_memory.specs.declared.objects.Life.{Life}
-use Rattle.concrete_memory.specs.declared.objects.Life.TheVariants.{Live, Ended}
 use Rattle.concrete_memory.specs.Standing.{StandsFor, Holds, life_of}
 use Rattle.concrete_machine.specs.declared.machine.Frame.{Frame}
 use Rattle.concrete_machine.specs.declared.machine.Machine.{Machine}

@@ -1,7 +1,7 @@
 -- What an attempt says where the machine goes on, or where a test fails.
 use Rattle.std.specs.Prelude.{reverse, map}
 use Rattle.std.specs.declared.alloc.Global.{Global}
-use Rattle.std.proofs.Common.{◌≡◌, ℕ, List, Option, Some, None, Vec, refl, sym, ◌∙◌, ap, subst}
+use Rattle.std.proofs.Common.{◌≡◌, ℕ, List, Option, Some, None, Vec, sym, ◌∙◌, ap, subst}
 use Rattle.flat_ir.specs.declared.program.ProgramData.{ProgramData}
 use Rattle.flat_ir.specs.declared.values.FaultKind.{FaultKind}
 use Rattle.flat_ir.specs.History.{History}
@@ -13,7 +13,7 @@ use Rattle.concrete_memory.specs.Standing.{StandsFor}
 use Rattle.concrete_machine.specs.declared.machine.Frame.{Frame}
 use Rattle.concrete_machine.specs.declared.machine.Machine.{Machine}
 use Rattle.concrete_machine.specs.declared.machine.Led.{Led}
-use Rattle.concrete_machine.specs.declared.machine.Led.TheVariants.{On, Exited, Faulted}
+use Rattle.concrete_machine.specs.declared.machine.Led.TheVariants.{Faulted}
 use Rattle.concrete_machine.specs.Frames.{frame_of, callers_of, state_at, TurnsTo}
 use Rattle.concrete_machine.specs.Standing.{Remembers, StandsAt, Leads}
 

@@ -1,5 +1,5 @@
 -- How the steps of the machine make up the run.
-use Rattle.std.proofs.Common.{◌≡◌, ℕ, ◌+◌, suc, List, refl, sym, ◌∙◌, ap, subst, add-one}
+use Rattle.std.proofs.Common.{◌≡◌, ℕ, ◌+◌, List, refl, sym, ◌∙◌, ap, add-one}
 use Rattle.flat_ir.specs.declared.program.ProgramData.{ProgramData}
 use Rattle.flat_ir.specs.declared.values.FaultKind.{FaultKind}
 use Rattle.flat_ir.specs.Machine as run
@@ -8,7 +8,7 @@ use Rattle.flat_ir.specs.Run.{run as run_of, step, goes_on, run-suc}
 use Rattle.concrete_machine.specs.declared.machine.Led.TheVariants.{On, Exited, Faulted}
 use Rattle.concrete_machine.specs.declared.machine.Machine.{Machine}
 use Rattle.concrete_machine.specs.Running.{EndsIn, outcome_of}
-use Rattle.concrete_machine.specs.Standing.{StandsAt, Leads}
+use Rattle.concrete_machine.specs.Standing.{Leads}
 use Rattle.concrete_machine.specs.Stepping.{IsAt, StepsAs}
 
 next_run : (p : ProgramData) (input : List ℕ) (done : ℕ) (s : State) → run_of p input done ≡ run.On s → run_of p input (done + 1) ≡ step p input s
@@ -28,7 +28,12 @@ exits p input done old new status at leads = after (step p input at.state) (next
     after : (r : Run) → run_of p input (done + 1) ≡ r → Leads p input new (Exited status) r → EndsIn p input (done + 1) (outcome_of (run.Exited status) new.output)
     after (run.On s) e ended = absurd ended
     after (run.Over end s) e ended = record {
-      done = done; last = refl; before = at.state; goes_on = at.goes_on; end = run.Exited status; left = s;
+      done = done;
+      last = refl;
+      before = at.state;
+      goes_on = at.goes_on;
+      end = run.Exited status;
+      left = s;
       over = e ∙ ap (λ (d : run.End). run.Over d s) (sym ended.0);
       shows = ap (outcome_of (run.Exited status)) ended.1;
     }
@@ -40,7 +45,12 @@ faults p input done old new kind at leads = after (step p input at.state) (next_
     after : (r : Run) → run_of p input (done + 1) ≡ r → Leads p input new (Faulted kind) r → EndsIn p input (done + 1) (outcome_of (run.Faulted kind new.frame.func new.frame.node) new.output)
     after (run.On s) e ended = absurd ended
     after (run.Over end s) e ended = record {
-      done = done; last = refl; before = at.state; goes_on = at.goes_on; end = run.Faulted kind new.frame.func new.frame.node; left = s;
+      done = done;
+      last = refl;
+      before = at.state;
+      goes_on = at.goes_on;
+      end = run.Faulted kind new.frame.func new.frame.node;
+      left = s;
       over = e ∙ ap (λ (d : run.End). run.Over d s) (sym ended.0);
       shows = ap (outcome_of (run.Faulted kind new.frame.func new.frame.node)) ended.1;
     }

@@ -1,5 +1,5 @@
 -- A step counts the node of the newest frame and attempts it.
-use Rattle.std.proofs.Common.{◌≡◌, ℕ, List, Result, Ok, Err, IfOk, refl, sym, ◌∙◌, ap, subst}
+use Rattle.std.proofs.Common.{◌≡◌, ℕ, List, Result, Ok, Err, IfOk, refl, ◌∙◌, ap, subst}
 use Rattle.flat_ir.specs.declared.nodes.Node.{Node}
 use Rattle.flat_ir.specs.declared.nodes.Node.TheVariants as node
 use Rattle.flat_ir.specs.declared.program.ProgramData.{ProgramData}
@@ -13,7 +13,7 @@ use Rattle.concrete_machine.specs.declared.machine.Led.{Led}
 use Rattle.concrete_machine.specs.declared.machine.Led.TheVariants.{Faulted}
 use Rattle.concrete_machine.specs.declared.machine.Machine.{Machine}
 use Rattle.concrete_machine.specs.Frames.{frame_of, state_at}
-use Rattle.concrete_machine.specs.Standing.{Remembers, StandsAt, Leads, Attempts}
+use Rattle.concrete_machine.specs.Standing.{Remembers, Leads, Attempts}
 use Rattle.concrete_machine.specs.Stepping.{StepsAs}
 
 pub if_ok_on : {T E : Type 0} (r : Result T E) (P Q : T → Type 0) → ((x : T) → P x → Q x) → IfOk r P → IfOk r Q
@@ -27,9 +27,9 @@ step_leads p input m new f kind led counts is attempts s stands =
     let here : kind ≡ node_at p s.frame.func s.frame.node = is ∙ ap (λ (g : run.Frame). node_at p g.func g.node) stands.frame in
     let frame : frame_of f ≡ counted s.frame = counts ∙ ap counted stands.frame in
     let at : state_at (record m { frame = f }) s.history s.events ≡ with_frame (counted s.frame) s =
-        λ i. record { frame = frame i; callers = stands.callers i; history = s.history; events = s.events } in
+    λ i. record { frame = frame i; callers = stands.callers i; history = s.history; events = s.events } in
     let remembers : Remembers p input (record m { frame = f }) s.history =
-        record { memory = stands.remembers.memory; position = stands.remembers.position; output = stands.remembers.output } in
+    record { memory = stands.remembers.memory; position = stands.remembers.position; output = stands.remembers.output } in
     rw (step-attempt p input s)
     (subst (λ (n : Node). Leads p input new led (attempt p input n (with_frame (counted s.frame) s))) here
     (subst (λ (t : State). Leads p input new led (attempt p input kind t)) at (attempts s.history s.events remembers)))

@@ -1,12 +1,11 @@
 -- In a run of a program that passed its checks the machine has what its node needs.
 use Rattle.std.specs.Prelude.{◌≤◌, slice_get, slice_index, unwrap_or}
-use Rattle.std.proofs.Common.{◌≡◌, ℕ, zero, suc, ◌+◌, ◌<◌, Bool, true, false, ◌&&◌, List, [], ◌∷◌, length, Option, Some, None, refl, sym, ◌∙◌, ap, subst, arith}
+use Rattle.std.proofs.Common.{◌≡◌, ℕ, zero, suc, Bool, true, false, List, [], ◌∷◌, length, Option, Some, None, refl, sym, ◌∙◌, ap, subst, arith}
 use Rattle.std.proofs.lemmas.Option.{slice_get_within, get_or_from_slice_get}
 use Rattle.std.proofs.lemmas.List.Elements.{recursion_from_All}
 use Rattle.std.specs.List.{AllByRecursion as Each}
-use Rattle.checks.specs.Types.{type_of, same_type, is_int, is_equality, is_scalar, has, casts, compares}
+use Rattle.checks.specs.Types.{type_of, same_type, is_int, is_scalar, has, casts, compares}
 use Rattle.flat_ir.specs.declared.names.FuncId.{FuncId}
-use Rattle.flat_ir.specs.declared.names.NodeId.{NodeId}
 use Rattle.flat_ir.specs.declared.names.RegId.{RegId}
 use Rattle.flat_ir.specs.declared.nodes.Node.{Node}
 use Rattle.flat_ir.specs.declared.nodes.Node.TheVariants as node
@@ -16,8 +15,8 @@ use Rattle.flat_ir.specs.declared.program.Func.{Func}
 use Rattle.flat_ir.specs.declared.program.ProgramData.{ProgramData}
 use Rattle.flat_ir.specs.Machine as run
 use Rattle.flat_ir.specs.Machine.{State, func_at, nodes_of, regs_of, node_at, type_at, value_in, made_here, counted}
-use Rattle.flat_ir.specs.MadeNames.{NamesAreKept, is_alloca, count_at, object_of}
-use Rattle.flat_ir.specs.Registers.{bytes_of_type, bytes_of_value}
+use Rattle.flat_ir.specs.MadeNames.{NamesAreKept, is_alloca}
+use Rattle.flat_ir.specs.Registers.{bytes_of_type}
 use Rattle.flat_ir.specs.Run.{run as run_of}
 use Rattle.flat_ir.specs.Steps.{width_of}
 use Rattle.flat_ir.specs.Whole.{IsWhole, IsWidth, IsFuncOf}
@@ -31,7 +30,7 @@ use Rattle.concrete_memory.proofs.ForCallers.{new_name_is_absent}
 use Rattle.concrete_machine.specs.declared.machine.Frame.{Frame}
 use Rattle.concrete_machine.specs.declared.machine.Machine.{Machine}
 use Rattle.concrete_machine.specs.Frames.{frame_of}
-use Rattle.concrete_machine.specs.Stepping.{IsAt, IsRunning}
+use Rattle.concrete_machine.specs.Stepping.{IsRunning}
 use Rattle.concrete_machine.specs.Suiting.{Suits, Keeps}
 use Rattle.concrete_machine.specs.Typing.{IsTypedIn, NodesAreTyped, HoldsTypes, TypesAreKept}
 use Rattle.concrete_machine.proofs.TypedRuns.{RunFits, run_fits, nodes_are_typed}
@@ -128,7 +127,7 @@ ready_in p store s n whole all names types stands =
         made = λ m k alloca least most.
             (alive_made f.name (record { func = f.func; node = m; count = k }) s.history (begun.objects m k alloca least most (λ e.
             let here : is_alloca (node_at p f.func f.node) ≡ true =
-                subst (λ (i : ℕ). is_alloca (unwrap_or (slice_get (nodes_of (func_at p f.func)) i) node.Unreachable) ≡ true) e alloca in
+            subst (λ (i : ℕ). is_alloca (unwrap_or (slice_get (nodes_of (func_at p f.func)) i) node.Unreachable) ≡ true) e alloca in
             absurd (both_ways here none)))).0;
       };
     }

@@ -1,10 +1,10 @@
 -- Each node keeps types, and so does each run.
-use Rattle.std.specs.Prelude.{◌≤◌, map, drop, take, nat_lt, slice_get, slice_set, unwrap_or, ◌==◌, if◌then◌else◌}
-use Rattle.std.proofs.Common.{◌≡◌, ℕ, zero, suc, ◌+◌, Bool, true, false, ◌&&◌, List, [], ◌∷◌, ◌++◌, length, Option, Some, None, refl, sym, ◌∙◌, ap, subst, arith, add-one}
+use Rattle.std.specs.Prelude.{◌≤◌, map, drop, take, nat_lt, slice_get, unwrap_or, ◌==◌, if◌then◌else◌}
+use Rattle.std.proofs.Common.{◌≡◌, ℕ, zero, suc, ◌+◌, Bool, true, false, List, [], ◌∷◌, ◌++◌, length, Option, Some, None, refl, sym, ◌∙◌, ap, subst, arith, add-one}
 use Rattle.std.specs.List.{AllByRecursion as Each}
 use Rattle.std.specs.Option.{option_map}
-use Rattle.checks.specs.Errors.{IsChecked, IsClash, mistyped}
-use Rattle.checks.specs.Types.{type_of, same_type, is_int, has, have, sets as sets_type, gives as gives_type, casts, are_moved, are_indexed}
+use Rattle.checks.specs.Errors.{IsChecked, mistyped}
+use Rattle.checks.specs.Types.{type_of, same_type, is_int, has, have, sets as sets_type, gives as gives_type, are_moved, are_indexed}
 use Rattle.checks.specs.Typed.{is_typed, calls as calls_typed}
 use Rattle.flat_ir.specs.declared.names.FuncId.{FuncId}
 use Rattle.flat_ir.specs.declared.names.NodeId.{NodeId}
@@ -20,7 +20,6 @@ use Rattle.flat_ir.specs.declared.program.ProgramData.{ProgramData}
 use Rattle.flat_ir.specs.declared.values.ConcreteValue.{ConcreteValue}
 use Rattle.flat_ir.specs.declared.values.ConcreteValue.TheVariants.{Int, Ptr}
 use Rattle.flat_ir.specs.declared.values.FaultKind.{FaultKind}
-use Rattle.flat_ir.specs.History.{History}
 use Rattle.flat_ir.specs.Registers.{null, zero_of, bytes_of_type, bytes_of_value, first_of}
 use Rattle.flat_ir.specs.Machine.{Frame, State, Run, On, Over, func_at, nodes_of, regs_of, node_at, type_at, value_in, count_here, counted, set, set_if, at_node, entered, step_here, start}
 use Rattle.flat_ir.specs.Steps.{attempt, unless, gives, gives_if, gives_loaded, loaded, set_all, returns, ended, set_result, call_result, resumed, number_in, address_in, new_here, allocated, branches, case_of, with_frame}
@@ -30,7 +29,7 @@ use Rattle.flat_ir.specs.Steps.{division_fault, free_fault, access_fault, byte_t
 use Rattle.flat_ir.specs.Effects.{freed_in, stored_in, written_in}
 use Rattle.bitnum.specs.Operations.{applied}
 use Rattle.flat_ir.proofs.MadeBasics.{each_map, each_set, each_read}
-use Rattle.concrete_machine.specs.Typing.{type_of_value, result_of, IsTypedIn, NodesAreTyped, HoldsTypes, CountsTo, IsCallOf, AreCallsOf, FitsTypes, TypesAreKept}
+use Rattle.concrete_machine.specs.Typing.{type_of_value, result_of, IsTypedIn, NodesAreTyped, HoldsTypes, CountsTo, IsCallOf, FitsTypes, TypesAreKept}
 use Rattle.concrete_machine.proofs.TypedValues.{and_two, and_three, same_type-true, has_type, set_holds, number_type, cast_width, casts_to, IsOfType, joined_type, args_types, entered_types, zero_types}
 
 -- in a program that passed its checks each node has the types that it needs
@@ -45,6 +44,7 @@ nodes_are_typed p checked f n = in_func (slice_get p.funcs f.0) refl
         by_test : (b : Bool) → (b ≡ false → ⊥) → b ≡ true
         by_test true not_false = refl
         by_test false not_false = absurd (not_false refl)
+
     in_func : (o : Option Func) → slice_get p.funcs f.0 ≡ o → is_typed p.funcs (regs_of o) (result_of o) (unwrap_or (slice_get (nodes_of o) n.0) node.Unreachable) ≡ true
     in_func None e = refl
     in_func (Some func) e = at func e (slice_get func.nodes n.0) refl
@@ -90,7 +90,7 @@ moves_fit p n old f fs (m ∷ ms) types same typed fits =
     let regs = regs_of (func_at p old.func) in
     let parts = and_two (has regs m.value (unwrap_or (slice_get regs m.register.0) type.Ptr)) (are_moved regs ms) typed in
     let e : type_of_value (value_in old m.value) ≡ type_at p f.func m.register =
-        has_type p old m.value (type_at p old.func m.register) types parts.0 ∙ ap (λ (g : FuncId). type_at p g m.register) (sym same) in
+    has_type p old m.value (type_at p old.func m.register) types parts.0 ∙ ap (λ (g : FuncId). type_at p g m.register) (sym same) in
     moves_fit p n old (set m.register (value_in old m.value) f) fs ms types same parts.1
     (record { types = set_holds p f m.register (value_in old m.value) fits.types e; caller_types = fits.caller_types; counts = fits.counts; caller_counts = fits.caller_counts; calls = fits.calls })
 
@@ -298,6 +298,7 @@ run_fits p input (suc n) all = rw (run-suc p input n) (more (run p input n) (run
   where
     later : (r : Run) → RunFits p (n + 1) r → RunFits p (suc n) r
     later r fits = subst (λ (m : ℕ). RunFits p m r) (add-one n) fits
+
     more : (r : Run) → RunFits p n r → RunFits p (suc n) (goes_on p input r)
     more (On s) kept = later (step p input s) (step_fits p input n s all kept)
     more (Over e s) kept = tt

@@ -2,12 +2,8 @@
 use Rattle.std.specs.Prelude.{◌≤◌, ◌*◌, ◌/◌, ◌==◌, map, drop, take, slice_get, slice_set, unwrap_or, if◌then◌else◌}
 use Rattle.std.proofs.Common.{◌≡◌, ℕ, zero, suc, Bool, true, false, ◌&&◌, ◌||◌, List, [], ◌∷◌, ◌++◌, length, Option, Some, None, refl, sym, ◌∙◌, ap, subst, arith}
 use Rattle.std.proofs.lemmas.Bool.{eqb-true}
-use Rattle.std.specs.List.{AllByRecursion as Each}
 use Rattle.bitnum.specs.Number.{Number}
-use Rattle.checks.specs.Types.{type_of, same_type, is_int, is_scalar, has, have, casts, resizes, compares}
-use Rattle.checks.specs.Types as checked
-use Rattle.bitnum.specs.declared.Pred.{Pred}
-use Rattle.flat_ir.specs.declared.names.FuncId.{FuncId}
+use Rattle.checks.specs.Types.{type_of, same_type, is_int, is_scalar, has, have, casts, resizes}
 use Rattle.flat_ir.specs.declared.names.RegId.{RegId}
 use Rattle.flat_ir.specs.declared.nodes.CastOp.{CastOp}
 use Rattle.flat_ir.specs.declared.nodes.CastOp.TheVariants.{Trunc, Zext, Sext}
@@ -21,7 +17,7 @@ use Rattle.flat_ir.specs.declared.values.ConcreteByte.TheVariants as byte
 use Rattle.flat_ir.specs.declared.values.ConcreteValue.{ConcreteValue}
 use Rattle.flat_ir.specs.declared.values.ConcreteValue.TheVariants.{Int, Ptr}
 use Rattle.flat_ir.specs.Machine.{Frame, func_at, regs_of, value_in, set, type_at}
-use Rattle.flat_ir.specs.Registers.{null, number, zero_of, bytes_of_type, bytes_of_value, joined, joined_number, joined_pointer, null_if_zero, number_of_width, are_bytes_of}
+use Rattle.flat_ir.specs.Registers.{null, number, zero_of, bytes_of_type, bytes_of_value, joined, joined_number, null_if_zero, number_of_width, are_bytes_of}
 use Rattle.flat_ir.specs.Steps.{cast_to, width_of}
 use Rattle.concrete_machine.specs.Suiting.{AreAlike}
 use Rattle.concrete_machine.specs.Typing.{type_of_value, HoldsTypes}
@@ -101,6 +97,7 @@ scalar_bytes (type.Int n) e = one_of (n == 8) (n == 16) (n == 32) (n == 64) (λ 
   where
     at : (k : ℕ) → n ≡ 8 * k → 1 ≤ k → 1 ≤ n / 8
     at k e some = omega arith
+
     one_of : (a b c d : Bool) → (a ≡ true → 1 ≤ n / 8) → (b ≡ true → 1 ≤ n / 8) → (c ≡ true → 1 ≤ n / 8) → (d ≡ true → 1 ≤ n / 8) → a || b || c || d ≡ true → 1 ≤ n / 8
     one_of true b c d fa fb fc fd e = fa refl
     one_of false true c d fa fb fc fd e = fb refl
@@ -154,5 +151,6 @@ entered_types (v ∷ vs) (suc n) (t ∷ ts) e = λ i. first_of_both e i ∷ ente
   where
     first_of_both : type_of_value v ∷ map type_of_value vs ≡ t ∷ take n ts → type_of_value v ≡ t
     first_of_both e = cc
+
     rest_of_both : type_of_value v ∷ map type_of_value vs ≡ t ∷ take n ts → map type_of_value vs ≡ take n ts
     rest_of_both e = cc

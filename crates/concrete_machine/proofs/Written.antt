@@ -1,25 +1,23 @@
 -- What stores and new objects leave.
 use Rattle.std.specs.Prelude.{min, ◌+◌, ◌%◌, ◌^◌}
-use Rattle.std.proofs.Common.{◌≡◌, ℕ, zero, suc, List, ◌∷◌, length, Option, Some, None, refl, sym, ◌∙◌, ap, subst}
+use Rattle.std.proofs.Common.{◌≡◌, ℕ, zero, suc, List, ◌∷◌, length, Some, None, refl, sym, ◌∙◌, ap, subst}
 use Rattle.flat_ir.specs.declared.names.NodeId.{NodeId}
-use Rattle.flat_ir.specs.declared.names.ObjectName.{ObjectName}
 use Rattle.flat_ir.specs.declared.program.ProgramData.{ProgramData}
 use Rattle.flat_ir.specs.declared.values.Address.{Address}
 use Rattle.flat_ir.specs.declared.values.ConcreteByte.{ConcreteByte}
 use Rattle.flat_ir.specs.declared.values.ConcreteValue.{ConcreteValue}
 use Rattle.flat_ir.specs.Effects.{written_in, stored_in}
 use Rattle.flat_ir.specs.History.{History, Write, Alloc, position, output}
-use Rattle.flat_ir.specs.Machine as run
 use Rattle.flat_ir.specs.Machine.{Event, made_here, at_node}
 use Rattle.flat_ir.specs.Registers.{bytes_of_value, cut}
 use Rattle.flat_ir.specs.Steps.{access_fault, unless, to, with_history}
 use Rattle.concrete_memory.specs.declared.objects.Store.{Store}
-use Rattle.concrete_memory.specs.Standing.{StandsFor, Stores}
+use Rattle.concrete_memory.specs.Standing.{Stores}
 use Rattle.concrete_machine.specs.declared.machine.Machine.{Machine}
 use Rattle.concrete_machine.specs.declared.machine.Led.TheVariants.{On}
-use Rattle.concrete_machine.specs.Frames.{frame_of, callers_of, state_at, TurnsTo}
+use Rattle.concrete_machine.specs.Frames.{frame_of, state_at, TurnsTo}
 use Rattle.concrete_machine.specs.Making.{Makes}
-use Rattle.concrete_machine.specs.Standing.{Remembers, StandsAt, Leads}
+use Rattle.concrete_machine.specs.Standing.{Remembers, Leads}
 use Rattle.concrete_machine.proofs.Leading.{leads_past, stands_moved}
 
 -- a write reads no input and writes nothing out

@@ -1,5 +1,5 @@
 -- The machine's frames, as frames of the run.
-use Rattle.std.specs.Prelude.{◌≡◌, ℕ, ◌+◌, ◌<◌, ◌^◌, List, map, reverse, slice_index}
+use Rattle.std.specs.Prelude.{◌≡◌, ◌+◌, ◌<◌, ◌^◌, List, map, reverse, slice_index}
 use Rattle.flat_ir.specs.History.{History}
 use Rattle.flat_ir.specs.Machine as run
 use Rattle.flat_ir.specs.Machine.{State, Event}

@@ -1,9 +1,8 @@
 -- What a machine has to have for the node that it attempts. In a program that passed its checks it has this at each step.
-use Rattle.std.specs.Prelude.{◌≡◌, ℕ, ◌≤◌, true, List}
+use Rattle.std.specs.Prelude.{◌≡◌, ℕ, ◌≤◌, true}
 use Rattle.bitnum.specs.Number.{Number}
 use Rattle.checks.specs.Types.{resizes}
 use Rattle.flat_ir.specs.declared.names.NodeId.{NodeId}
-use Rattle.flat_ir.specs.declared.names.RegId.{RegId}
 use Rattle.flat_ir.specs.declared.nodes.Node.{Node}
 use Rattle.flat_ir.specs.declared.nodes.Node.TheVariants as node
 use Rattle.flat_ir.specs.declared.nodes.Operand.{Operand}

@@ -7,7 +7,10 @@ ghost use Rattle.concrete_machine.specs.Frames.{frame_of, HasRoom};
 
 use crate::machine::Frame;
 use bitnum::Num;
-use flat_ir::{Address, CallStep, ConcreteValue, FuncId, Node, NodeId, ObjectName, Operand, ProgramData, RegId, RegType};
+use flat_ir::{
+    Address, CallStep, ConcreteValue, FuncId, Node, NodeId, ObjectName, Operand, ProgramData,
+    RegId, RegType,
+};
 use std::alloc::AllocError;
 
 /// The nodes of a function.

@@ -14,7 +14,9 @@ ghost use Rattle.concrete_machine.specs.Suiting.{number_here, AreAlike, IsNumber
 use crate::frames::{number_of, type_at, value_of};
 use crate::machine::{Frame, Led, Machine};
 use bitnum::{BinOp, Num, Pred, apply, compare, divide, sext, trunc, zext};
-use flat_ir::{Address, CastOp, ConcreteValue, FaultKind, NodeId, Operand, ProgramData, RegId, RegType};
+use flat_ir::{
+    Address, CastOp, ConcreteValue, FaultKind, NodeId, Operand, ProgramData, RegId, RegType,
+};
 use std::alloc::AllocError;
 
 // The fault of a quotient by 0.

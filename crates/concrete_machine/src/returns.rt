@@ -31,12 +31,7 @@ fn object_of(frame: &Frame, node: NodeId, count: u64) -> Result<ObjectName, Allo
 }
 
 // Ends what a node of the frame made, which was executed so often.
-fn end_all_of(
-    store: &mut Store,
-    frame: &Frame,
-    node: NodeId,
-    count: u64,
-) -> Result<(), AllocError>
+fn end_all_of(store: &mut Store, frame: &Frame, node: NodeId, count: u64) -> Result<(), AllocError>
     requires { KeepsOf store.old (frame_of frame.now) node count }
     ensures { OnOk result (AddsAll store.old store.new (spec.frees_of_node (frame_of frame.now) node count 1)) }
 {
@@ -81,10 +76,7 @@ fn end_objects(store: &mut Store, frame: &Frame, nodes: &[Node]) -> Result<(), A
 }
 
 // The value that a frame returns, if there is one.
-fn returned(
-    frame: &Frame,
-    value: &Option<Operand>,
-) -> Result<Option<ConcreteValue>, AllocError>
+fn returned(frame: &Frame, value: &Option<Operand>) -> Result<Option<ConcreteValue>, AllocError>
     ensures { IfOk result (λ v. v ≡ option_map (value_in (frame_of frame.now)) value.now) }
 {
     match value {

@@ -86,12 +86,7 @@ fn into_output(machine: Machine) -> Sequence<u8>
 }
 
 /// Runs a program that passed its checks on an input, attempting at most so many nodes.
-pub fn run(
-    alloc: Global,
-    program: &Program,
-    input: &[u8],
-    steps: u64,
-) -> Result<RunEnd, AllocError>
+pub fn run(alloc: Global, program: &Program, input: &[u8], steps: u64) -> Result<RunEnd, AllocError>
     requires { IsChecked program.now.funcs }
     ensures { IfOk result (IsRunOf program.now input.now steps) }
 {

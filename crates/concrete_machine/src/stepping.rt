@@ -88,12 +88,7 @@ impl Machine {
     }
 
     // Attempts a node.
-    fn attempt(
-        &mut self,
-        program: &Program,
-        input: &[u8],
-        node: &Node,
-    ) -> Result<Led, AllocError>
+    fn attempt(&mut self, program: &Program, input: &[u8], node: &Node) -> Result<Led, AllocError>
         requires { Suits program.now self.old node.now }
         ensures { IfOk result (Attempts program.now input.now node.now self.old self.new) }
     {

@@ -1,7 +1,6 @@
-use Rattle.std.proofs.Common.{◌≡◌, ◌+◌, sym, subst, arith}
+use Rattle.std.proofs.Common.{◌+◌, sym, subst, arith}
 use Rattle.flat_ir.specs.Machine.{start}
 use Rattle.flat_ir.specs.Run.{run-zero}
-use Rattle.concrete_machine.specs.declared.running.Outcome.{Outcome}
 use Rattle.concrete_machine.specs.Running.{EndsIn}
 use Rattle.concrete_machine.proofs.Runs.{stays_at, exits, faults}
 use Rattle.concrete_machine.proofs.running.run.Goals as goal

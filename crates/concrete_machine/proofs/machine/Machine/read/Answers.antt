@@ -1,5 +1,4 @@
-use Rattle.std.proofs.Common.{◌∙◌, ap, sym}
-use Rattle.std.specs.Prelude.{slice_get}
+use Rattle.std.proofs.Common.{◌∙◌, ap}
 use Rattle.flat_ir.specs.Machine.{at_node, set}
 use Rattle.flat_ir.specs.Registers.{int}
 use Rattle.flat_ir.specs.Steps.{unsigned_byte, next_byte}

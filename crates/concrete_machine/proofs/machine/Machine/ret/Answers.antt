@@ -1,8 +1,7 @@
-use Rattle.std.proofs.Common.{◌≡◌, true, List, [], ◌∷◌, ◌++◌, Option, refl, sym, ◌∙◌, ap, subst, arith}
-use Rattle.std.specs.Prelude.{reverse, slice_get, unwrap_or}
+use Rattle.std.proofs.Common.{◌≡◌, true, List, [], ◌∷◌, Option, refl, sym, ◌∙◌, ap, subst, arith}
+use Rattle.std.specs.Prelude.{slice_get, unwrap_or}
 use Rattle.flat_ir.specs.declared.nodes.Node.{Node}
 use Rattle.flat_ir.specs.declared.nodes.Node.TheVariants as node
-use Rattle.flat_ir.specs.History.{output}
 use Rattle.flat_ir.specs.Machine as run
 use Rattle.std.specs.Option.{option_map}
 use Rattle.flat_ir.specs.declared.values.ConcreteValue.{ConcreteValue}

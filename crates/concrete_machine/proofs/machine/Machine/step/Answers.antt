@@ -1,5 +1,5 @@
-use Rattle.std.specs.Prelude.{slice_index, slice_get, unwrap_or}
-use Rattle.std.proofs.Common.{◌≡◌, ◌≤◌, Option, Some, None, sym, ◌∙◌, ap, arith}
+use Rattle.std.specs.Prelude.{slice_index, unwrap_or}
+use Rattle.std.proofs.Common.{◌≤◌, Option, ◌∙◌, ap, arith}
 use Rattle.flat_ir.specs.declared.nodes.Node.{Node}
 use Rattle.flat_ir.specs.declared.nodes.Node.TheVariants as node
 use Rattle.flat_ir.specs.declared.program.ProgramData.{ProgramData}

@@ -1,6 +1,5 @@
 use Rattle.std.proofs.Common.{◌∙◌, ap}
 use Rattle.flat_ir.specs.Machine.{at_node}
-use Rattle.flat_ir.specs.Registers.{number}
 use Rattle.concrete_machine.specs.Control.{target_of}
 use Rattle.concrete_machine.specs.Frames.{frame_of}
 use Rattle.concrete_machine.proofs.Controlled.{target_is}
