@@ -1,4 +1,5 @@
-//! The program `chopper`: explores a module over all inputs of some bytes, prints it anew, or tells where its pointers may point.
+//! The program `chopper`: explores a module over all inputs of some bytes, runs it on one, prints it anew, or tells where its pointers may point
+//! and what its slices retain.
 #![tactic(auto)]
 
 use chop_outside::{FreeGate, HostFiles, HostSink};
@@ -15,12 +16,26 @@ const HELP: &str = "chopper explore [--input N] [--steps S] [--leaves B] [--shar
     B  conflicts that a decision may meet, 1 to 1000000 (10000)
     A  states that there may be, 1 to 100000 (1024)
 
+chopper run --hex H --steps S FILE
+    runs the module on one input for at most S steps, and prints how the run ended,
+    what it had written out, and how many steps it took; the options stand in any order
+
+    H  the input: two digits of 0 to 9 and a to f for each of 1 to 64 bytes, or - for none
+    S  steps that the run may take, 1 to 1000000
+
 chopper print FILE
     prints the module anew, each thing with its name or number
 
 chopper sites FILE
     prints for each global and each node that makes objects to whose objects their
     pointers may point, and for each function what its calls may change
+
+chopper slice FILE FUNCTION LOCATION
+    prints which nodes of the function, and of those that it calls, are needed for what a
+    call of it does to the location, and where each of them leads
+
+    LOCATION  cells:SITE, life:SITE, input, output or result; a SITE is @ and a global's
+              name, or a function's name, a colon and the number of a node
 
 The exit status is 0 with a whole text, 2 where the words aren't these, 3 where FILE is
 refused, 4 where memory ran out, 5 where FILE couldn't be read, and 6 where the text
