@@ -156,7 +156,11 @@ fn program_of(alloc: Global, steps: u32, functions: u32) -> Result<Program, Allo
 }
 
 fn count_in(kept: &Kept) -> usize {
-    kept.nexts.as_slice().iter().filter(|nexts| nexts.is_some()).count()
+    kept.nexts
+        .as_slice()
+        .iter()
+        .filter(|nexts| nexts.is_some())
+        .count()
 }
 
 fn run(alloc: Global, steps: u32, functions: u32) -> Result<u64, AllocError>
