@@ -10,4 +10,4 @@ read-is-readable : (bytes : List ℕ) (t : IrTree) → IsReadAs bytes t → is_r
 read-is-readable bytes t a = subst (λ u. is_readable u ≡ true) (sym a.numbers) (trees_are_readable a.spelled (seen bytes a.tokens) a.is_module)
 
 pub resolve-requires : goal.resolve-requires
-resolve-requires c = read-is-readable c.args.bytes.now c.in-Ok.tree c.in-Ok.ensures.tree
+resolve-requires c = record { readable = read-is-readable c.args.bytes.now c.in-Ok.tree c.in-Ok.ensures.tree }
