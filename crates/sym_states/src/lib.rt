@@ -1,0 +1,7 @@
+//! Symbolic states: where a program stands over input bytes, with terms, memory and a condition; definitions of what an attempt
+//! of a node gives, and of an exploration.
+#![tactic(auto)]
+
+mod frames;
+
+pub use frames::{Frame, Place, Snapshot, Target};
