@@ -1,5 +1,5 @@
 -- Terms over the first n bytes of input, and what is made of them.
-use Rattle.std.specs.Prelude.{◌≡◌, ℕ, List, [], ◌∷◌, length, Option, Some, None, IfSome}
+use Rattle.std.specs.Prelude.{◌≡◌, ℕ, ◌≤◌, List, [], ◌∷◌, length, Option, Some, None, IfSome}
 use Rattle.terms.specs.Tree.{Tree, IsTree, width_of}
 use Rattle.terms.specs.Value.{ReadsBelow}
 use Rattle.sym_bytes.specs.Byte as byte
@@ -43,7 +43,7 @@ BytesFit n [] = Unit {0}
 BytesFit n (b ∷ bs) = ByteFits n b × BytesFit n bs
 
 abbrev pub EntryFits : ℕ → Entry → Type 0
-EntryFits n (entry.Write x offset bytes) = IsTermOf n 64 offset × BytesFit n bytes
+EntryFits n (entry.Write x offset bytes) = IsTermOf n 64 offset × (length bytes ≤ 8) × BytesFit n bytes
 EntryFits n (entry.Alloc x size) = IsTermOf n 64 size
 EntryFits n (entry.Free x) = Unit {0}
 EntryFits n (entry.Put t) = IsTermOf n 8 t

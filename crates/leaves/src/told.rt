@@ -13,8 +13,8 @@ use terms::Term;
 /// A skipped call, and what it returned, where that is recovered.
 #[derive(Drop)]
 pub struct Recovered<H: Home> {
-    pub call: CallId,
-    pub value: SymValue<H>,
+    call: CallId,
+    value: SymValue<H>,
 }
 
 impl<H: Home> Model for Recovered<H> {
@@ -28,6 +28,29 @@ impl<H: Home> Model for Recovered<H> {
     ghost coded = { Prim.hlevel (codes, coded_tree) };
 
     ghost view = { λ r. record { call = r.call; value = r.value } };
+}
+
+impl<H: Home> Recovered<H> {
+    /// A call, and what it returned.
+    pub fn new(call: CallId, value: SymValue<H>) -> Recovered<H>
+        ensures { result ≡ record { call = call; value = value } }
+    {
+        Recovered { call, value }
+    }
+
+    /// The call.
+    pub fn call(&self) -> CallId
+        ensures { result ≡ self.now.call }
+    {
+        self.call
+    }
+
+    /// What it returned.
+    pub fn value(&self) -> &SymValue<H>
+        ensures { result.now ≡ self.now.value }
+    {
+        &self.value
+    }
 }
 
 /// A leaf's condition, the least input that meets it (none where the solver's budget was spent), its branches and loads, the

@@ -30,8 +30,7 @@ use Rattle.leaves.specs.declared.options.Cause.TheVariants as cause
 use Rattle.leaves.specs.Events.{Leaf}
 use Rattle.leaves.specs.Events as leaf
 use Rattle.leaves.specs.Events.{Told}
-use Rattle.decider.specs.declared.Verdict.{Verdict}
-use Rattle.decider.specs.declared.Verdict.TheVariants.{Sat, Unsat, Spent}
+use Rattle.sym_states.specs.Verdicts.{Verdict, Sat, Unsat, Spent}
 use Rattle.sym_states.specs.Exploring.{Setting}
 use Rattle.sym_states.specs.Running.{explored}
 use Rattle.terms.specs.Value.{are_met_by}

@@ -1,2 +1,5 @@
 mod Rows
 mod Forks
+pub mod Fitted
+pub mod Widths
+pub mod Reads

@@ -26,7 +26,7 @@ use Rattle.flat_ir.specs.declared.residual.Kept.{Kept}
 use Rattle.flat_ir.specs.declared.residual.Next.TheVariants as next
 use Rattle.leaves.specs.Events.{Leaf}
 use Rattle.leaves.specs.Events as leaf
-use Rattle.decider.specs.declared.Verdict.TheVariants.{Unsat}
+use Rattle.sym_states.specs.Verdicts.{Unsat}
 use Rattle.sym_bytes.specs.Building.{number}
 use Rattle.sym_states.specs.Exploring.{Setting}
 use Rattle.sym_states.specs.Running.{explored}

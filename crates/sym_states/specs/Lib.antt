@@ -1,4 +1,7 @@
+pub mod Verdicts
 pub mod States
+pub mod Fitting
+pub mod Shown
 pub mod Terms
 pub mod Sides
 pub mod Attempts

@@ -5,8 +5,7 @@ use Rattle.terms.specs.Tree.{Tree}
 use Rattle.terms.specs.Value.{are_met_by}
 use Rattle.term_store.specs.Condition.{answer}
 use Rattle.term_store.specs.declared.conditions.Added.TheVariants.{Held, Appended, Contradicted}
-use Rattle.decider.specs.declared.Verdict.{Verdict}
-use Rattle.decider.specs.declared.Verdict.TheVariants.{Sat, Unsat, Spent}
+use Rattle.sym_states.specs.Verdicts.{Verdict, Sat, Unsat, Spent}
 use Rattle.flat_ir.specs.declared.names.FuncId.{FuncId}
 use Rattle.flat_ir.specs.declared.names.NodeId.{NodeId}
 use Rattle.flat_ir.specs.declared.names.Location.TheVariants as location

@@ -1,7 +1,6 @@
 -- The sides that a branch, a switch or a test offers, and the children that they make.
 use Rattle.std.specs.Prelude.{ℕ, ◌+◌, ◌/◌, ◌%◌, ◌==◌, nat_lt, true, false, List, [], ◌∷◌, ◌++◌, length, Option, Some, None, if◌then◌else◌}
-use Rattle.decider.specs.declared.Verdict.{Verdict}
-use Rattle.decider.specs.declared.Verdict.TheVariants.{Sat, Unsat, Spent}
+use Rattle.sym_states.specs.Verdicts.{Verdict, Sat, Unsat, Spent}
 use Rattle.terms.specs.Tree.{Tree}
 use Rattle.terms.specs.Value.{is_met_by}
 use Rattle.term_store.specs.Condition.{answer, negation}
@@ -81,13 +80,19 @@ forks take s os = elim (nat_lt s.shares (length os))
 abbrev pub stays : ℕ → State → State
 stays side s = s
 
-abbrev pub tested : State → Offer → (State → Step) → (State → Step) → Step
-tested s (Alone side t) good bad = elim (side == 0) [ true ↦ good t | false ↦ bad t ]
-tested s (Several os) good bad = forks stays s os
+-- a test holds, or it fails, or it makes the answer
+pub data Tested : Type 0 where
+  Good : State → Tested
+  Bad : State → Tested
+  Answered : Step → Tested
+
+abbrev pub tested : State → Offer → Tested
+tested s (Alone side t) = if side == 0 then Good t else Bad t
+tested s (Several os) = Answered (forks stays s os)
 
 -- a test: its good side first
-abbrev pub test : Context → Tree → State → (State → Step) → (State → Step) → Step
-test c t s good bad = tested s (offer c (t ∷ negation t ∷ []) s) good bad
+abbrev pub test : Context → Tree → State → Tested
+test c t s = tested s (offer c (t ∷ negation t ∷ []) s)
 
 abbrev pub taken : (ℕ → State → State) → State → Offer → Step
 taken take s (Alone side t) = Goes (take side t)

@@ -3,7 +3,7 @@
 -- nowhere from it; a program that was checked meets none of these.
 use Rattle.std.specs.Prelude.{ℕ, ◌+◌, List, [], ◌∷◌, ◌++◌, map, drop, length, Option, Some, None, unwrap_or, slice_get, slice_set}
 use Rattle.terms.specs.Tree.{Tree}
-use Rattle.decider.specs.declared.Verdict.{Verdict}
+use Rattle.sym_states.specs.Verdicts.{Verdict}
 use Rattle.flat_ir.specs.declared.names.CallStep.{CallStep}
 use Rattle.flat_ir.specs.declared.names.FuncId.{FuncId}
 use Rattle.flat_ir.specs.declared.names.NodeId.{NodeId}
@@ -213,10 +213,23 @@ gives c r v s = Goes (in_frame (moved c 0 (set_if r v (counted s.frame))) s)
 abbrev pub goes_on : Context → State → Step
 goes_on c s = gives c None None s
 
+-- a part of an attempt goes on with what it made, or it has given the attempt's answer
+pub data Flow (A : Type 0) : Type 0 where
+  On : A → Flow A
+  Over : Step → Flow A
+
+abbrev pub then_flow : {A B : Type 0} → Flow A → (A → Flow B) → Flow B
+then_flow (On x) next = next x
+then_flow (Over step) next = Over step
+
+abbrev pub then_step : {A : Type 0} → Flow A → (A → Step) → Step
+then_step (On x) next = next x
+then_step (Over step) next = step
+
 abbrev pub needs_at : Location → List CallId → List Needed
 needs_at at calls = map (λ c. record { call = c; at = at }) calls
 
 -- goes on where no call is needed
-abbrev pub unless_needed : Location → List CallId → State → (State → Step) → Step
-unless_needed at [] s then' = then' s
-unless_needed at (c ∷ calls) s then' = Needs s (needs_at at (c ∷ calls))
+abbrev pub unless_needed : Location → List CallId → State → Flow State
+unless_needed at [] s = On s
+unless_needed at (c ∷ calls) s = Over (Needs s (needs_at at (c ∷ calls)))

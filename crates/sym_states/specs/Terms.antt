@@ -1,6 +1,6 @@
 -- The values that nodes make of their operands. All is total: where widths don't fit a node, as in no program that was checked,
 -- a term is made all the same, and so each test and each side is a term of one bit.
-use Rattle.std.specs.Prelude.{ℕ, ◌+◌, ◌-◌, ◌*◌, ◌/◌, ◌%◌, ◌^◌, ◌==◌, ◌&&◌, nat_lt, nat_le, Bool, List, [], ◌∷◌, length, map, Option, Some, None, slice_get, if◌then◌else◌}
+use Rattle.std.specs.Prelude.{ℕ, ◌+◌, ◌-◌, ◌*◌, ◌/◌, ◌%◌, ◌^◌, ◌==◌, ◌&&◌, nat_lt, nat_le, Bool, true, List, [], ◌∷◌, ◌++◌, length, map, Option, Some, None, slice_get, if◌then◌else◌}
 use Rattle.bitnum.specs.declared.BinOp.{BinOp}
 use Rattle.bitnum.specs.declared.BinOp.TheVariants as op
 use Rattle.bitnum.specs.declared.Pred.{Pred}
@@ -33,6 +33,23 @@ use Rattle.sym_bytes.specs.Pointers.{Pointer}
 use Rattle.sym_bytes.specs.Value.{SymValue, Int, Ptr, Pending}
 use Rattle.sym_states.specs.States.{Frame, Snapshot, State, set}
 
+-- ---- values and their bytes
+
+-- how many bytes a value takes in memory
+abbrev pub bytes_of_value : SymValue → ℕ
+bytes_of_value (Int t) = width_of t / 8
+bytes_of_value (Ptr p) = 8
+bytes_of_value (Pending c t) = bytes_of_type t
+
+abbrev pub is_of_bytes : SymValue → Bool
+is_of_bytes (Int t) = width_of t == 8 * (width_of t / 8)
+is_of_bytes (Ptr p) = true
+is_of_bytes (Pending c t) = true
+
+-- byte j of a value; a checked program asks for no byte that it doesn't have
+abbrev pub part_of : SymValue → ℕ → SymByte
+part_of v j = if is_of_bytes v && nat_lt j (bytes_of_value v) then byte_of v j else byte.Int (number 8 0)
+
 -- ---- operands
 
 abbrev pub instead : Option SymValue → SymValue → SymValue
@@ -54,7 +71,7 @@ resolved (s ∷ newer) v = with_result s (resolved newer v)
 abbrev pub byte_resolved : List Snapshot → SymByte → SymByte
 byte_resolved snapshots (byte.Int t) = byte.Int t
 byte_resolved snapshots (byte.PtrByte p j) = byte.PtrByte p j
-byte_resolved snapshots (byte.PendingByte c t j) = byte_of (resolved snapshots (Pending c t)) j
+byte_resolved snapshots (byte.PendingByte c t j) = part_of (resolved snapshots (Pending c t)) j
 
 abbrev pub set_or_null : Option (Option SymValue) → SymValue
 set_or_null (Some (Some v)) = v
@@ -176,9 +193,12 @@ abbrev pub in_64_bits : Tree → Tree
 in_64_bits t = if width_of t == 64 then t else folded_one (Sext 64) t
 
 -- an offset moved by a field's place, or by an index times a size ('getelementptr')
+abbrev pub moved_by_index : Tree → ℕ → Tree → Tree
+moved_by_index offset scale index = folded_two (Bin op.Add) offset (folded_two (Bin op.Mul) (wide scale) (in_64_bits index))
+
 abbrev pub moved_by : State → Tree → GepPart → Tree
 moved_by s offset (Field by) = behind offset by
-moved_by s offset (Index scale index) = folded_two (Bin op.Add) offset (folded_two (Bin op.Mul) (wide scale) (in_64_bits (number_in s index)))
+moved_by s offset (Index scale index) = moved_by_index offset scale (number_in s index)
 
 abbrev pub moved_by_all : State → Tree → List GepPart → Tree
 moved_by_all s offset [] = offset
@@ -241,18 +261,7 @@ none_of (t ∷ ts) = and_none (negation t) ts
 abbrev pub switch_sides : Tree → List SwitchCase → List Tree
 switch_sides v cs = case_sides v cs ++ none_of (case_sides v cs) ∷ []
 
--- ---- values and their bytes
-
--- how many bytes a value takes in memory
-abbrev pub bytes_of_value : SymValue → ℕ
-bytes_of_value (Int t) = width_of t / 8
-bytes_of_value (Ptr p) = 8
-bytes_of_value (Pending c t) = bytes_of_type t
-
-abbrev pub is_of_bytes : SymValue → Bool
-is_of_bytes (Int t) = width_of t == 8 * (width_of t / 8)
-is_of_bytes (Ptr p) = true
-is_of_bytes (Pending c t) = true
+-- ---- bytes that are stored and loaded
 
 -- the bytes of a value as it is stored; a checked program stores no number whose bits make no bytes
 abbrev pub stored_bytes : SymValue → List SymByte

@@ -2,6 +2,10 @@
 //! of a node gives, and of an exploration.
 #![tactic(auto)]
 
+mod callers;
 mod frames;
+mod state;
 
-pub use frames::{Frame, Place, Snapshot, Target};
+pub use callers::Callers;
+pub use frames::{Frame, Place, Snapshot, Target, copy_values};
+pub use state::{Popped, State};
