@@ -1,10 +1,12 @@
 //! What nodes make of their operands, and where frames go: terms, values, and the parts of a program that are looked at.
 #![tactic(auto)]
 
+mod sides;
 mod terms;
 mod values;
 mod ways;
 
+pub use sides::switch_sides;
 pub use terms::{
     behind, calculated, cast_to, chosen, compared_pointers, compared_terms, has_quotient,
     indexed, input_at, is_equal, is_nonzero, is_small, is_start, is_within, low_byte, size_in,

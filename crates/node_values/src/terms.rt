@@ -27,7 +27,8 @@ pub fn wide<H: Home>(terms: &Terms<H>, bits: u64) -> Result<Term<H>, AllocError>
 
 // One bit, 0.
 fn no<H: Home>(terms: &Terms<H>) -> Result<Term<H>, AllocError>
-    ensures { IfOk result (λ t. t ≡ building.number 1 0) }
+    ensures value { IfOk result (λ t. t ≡ building.number 1 0) }
+    ensures width { IfOk result (λ t. width_of t ≡ 1) }
 {
     constant(terms, Num::new(1, 0))
 }
@@ -54,7 +55,8 @@ pub fn is_equal<H: Home>(
     a: &Term<H>,
     b: &Term<H>,
 ) -> Result<Term<H>, AllocError>
-    ensures { IfOk result (λ t. t ≡ spec.is_equal a.now b.now) }
+    ensures value { IfOk result (λ t. t ≡ spec.is_equal a.now b.now) }
+    ensures width { IfOk result (λ t. width_of t ≡ 1) }
 {
     if a.width() == b.width() {
         eq(terms, a, b)

@@ -1,6 +1,5 @@
 -- How the code's types show what a state takes of its sides.
 use Rattle.std.specs.Prelude.{◌≡◌, ℕ, List, [], ◌∷◌, map, length, Option, Some, None}
-use Rattle.terms.specs.Tree.{Tree, width_of}
 use Rattle.leaves.specs.Fitting.{AreTermsOf}
 use Rattle.sym_states.specs.Attempts.{took}
 use Rattle.sym_states.specs.Sides.{Offspring, Lives, Spends, Offer, Alone, Several, stays}
@@ -24,10 +23,6 @@ OffspringFits n (Spends condition) = Unit {0}
 abbrev pub OffspringsFit : ℕ → List Offspring → Type 0
 OffspringsFit n [] = Unit {0}
 OffspringsFit n (o ∷ os) = OffspringFits n o × OffspringsFit n os
-
-abbrev pub HaveOneBit : List Tree → Type 0
-HaveOneBit [] = Unit {0}
-HaveOneBit (t ∷ ts) = (width_of t ≡ 1) × HaveOneBit ts
 
 module _ {H : Type 0} where
   abbrev pub offspring_of : code_offspring.Offspring H → Offspring

@@ -4,9 +4,10 @@ ghost use Rattle.terms.specs.Tree.{width_of};
 ghost use Rattle.term_store.specs.Condition.{answer, negation};
 ghost use Rattle.leaves.specs.Fitting.{IsTermOf, AreTermsOf};
 ghost use Rattle.sym_states.specs.Attempts.{took};
+ghost use Rattle.sym_states.specs.Fitting.{HaveOneBit};
 ghost use Rattle.sym_states.specs.Sides as spec;
 ghost use Rattle.sym_states.specs.States as states;
-ghost use Rattle.sym_machine.specs.Offers.{offspring_of, maybe_of, take_of, IsOffer, OffspringFits, OffspringsFit, HaveOneBit};
+ghost use Rattle.sym_machine.specs.Offers.{offspring_of, maybe_of, take_of, IsOffer, OffspringFits, OffspringsFit};
 ghost use Rattle.sym_machine.specs.Views.{context_of, verdict_of, step_of, child_of, tested_of, TestedKeeps};
 
 use crate::answers::{Advance, Child, Machine, Tested};

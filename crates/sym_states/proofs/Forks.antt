@@ -37,11 +37,11 @@ use Rattle.terms.specs.Value.{are_met_by}
 use Rattle.sym_states.proofs.Rows.{r, at, func, int, reg, global, function, main_of}
 
 -- the first of these inputs that meets the condition; the conditions here are met by one of them or by none
-abbrev first_of : List (List ℕ) → List Tree → Verdict
+abbrev pub first_of : List (List ℕ) → List Tree → Verdict
 first_of [] condition = Unsat
 first_of (input ∷ inputs) condition = elim (are_met_by input condition) [ true ↦ Sat input | false ↦ first_of inputs condition ]
 
-abbrev getchar : Func
+abbrev pub getchar : Func
 getchar = function (type.Int 32 ∷ []) (Some (type.Int 32)) (node.In (r 0) (at 1) ∷ node.Ret (Some (reg 0)) ∷ [])
 
 abbrev with_params : ℕ → Func → Func
@@ -60,24 +60,24 @@ setting funcs main skips mods kept inputs candidates shares = record {
 }
 
 -- a leaf's line: the kept input, what it ends with and the steps of 100
-data Line : Type 0 where
+pub data Line : Type 0 where
   Complete : List ℕ → ℕ → ℕ → Line
   Fault : List ℕ → FaultKind → ℕ → ℕ → Line
   Skipped : List ℕ → FaultKind → ℕ → ℕ → Line
   Open : Option (List ℕ) → Cause → ℕ → Line
   Other : Line
 
-abbrev kept_of : Told → List ℕ
+abbrev pub kept_of : Told → List ℕ
 kept_of told = unwrap_or told.kept []
 
-abbrev line : Leaf → Line
+abbrev pub line : Leaf → Line
 line (leaf.Complete told status output) = Complete (kept_of told) (value_of status (kept_of told)).bits (100 - told.left)
 line (leaf.Fault told kind f n output) = Fault (kept_of told) kind n.0 (100 - told.left)
 line (leaf.Skipped told kind f n) = Skipped (kept_of told) kind n.0 (100 - told.left)
 line (leaf.Open told why) = Open told.kept why (100 - told.left)
 line _ = Other
 
-abbrev lines : Setting → List Line
+abbrev pub lines : Setting → List Line
 lines e = map line (explored 40 e)
 
 -- the byte read is compared with 65
@@ -90,7 +90,7 @@ compares = main_of (type.Int 32 ∷ type.Int 1 ∷ [])
     ∷ node.Ret (Some (int 1))
     ∷ [])
 
-abbrev compares_setting : ℕ → Setting
+abbrev pub compares_setting : ℕ → Setting
 compares_setting shares = setting (getchar ∷ compares ∷ []) 1 [] [] [] 1 ((0 ∷ []) ∷ (65 ∷ []) ∷ []) shares
 
 forks_on_a_byte : lines (compares_setting 8) ≡ Complete (0 ∷ []) 0 6 ∷ Complete (65 ∷ []) 1 6 ∷ []

@@ -1,5 +1,6 @@
 mod Rows
 mod Forks
+mod Traces
 pub mod Fitted
 pub mod Widths
-pub mod Reads
+pub mod Remembered

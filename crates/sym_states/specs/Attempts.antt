@@ -1,7 +1,7 @@
 -- One attempt of a state's node: the results that it needs first, its tests in order, and its effect. Each kind of node follows
 -- the section of the LLVM Language Reference's "Instruction Reference" of its name, as the concrete run does; what is tested
 -- there on an input is a test of a term here, and where skipped calls may have changed what is asked, they are needed first.
-use Rattle.std.specs.Prelude.{ℕ, zero, suc, ◌+◌, ◌^◌, Bool, true, false, List, [], ◌∷◌, ◌++◌, length, map, reverse, Option, Some, None, unwrap_or, slice_get}
+use Rattle.std.specs.Prelude.{ℕ, zero, suc, ◌+◌, ◌-◌, ◌^◌, Bool, true, false, List, [], ◌∷◌, ◌++◌, length, map, reverse, Option, Some, None, unwrap_or, slice_get}
 use Rattle.std.specs.Option.{option_map, option_to_list}
 use Rattle.std.specs.List.{flat_map}
 use Rattle.bitnum.specs.declared.Pred.{Pred}
@@ -133,7 +133,7 @@ read_on c x at (suc tests) s = elim (read_byte s.memory.globals s.condition x at
 ]
 
 abbrev pub read_one : Context → ObjectName → Tree → State → Flow ReadBytes
-read_one c x at s = read_on c x at (2 ^ 64) s
+read_one c x at s = read_on c x at (2 ^ 64 - 1) s
 
 abbrev pub before : List SymByte → ReadBytes → Flow ReadBytes
 before first more = On (record { bytes = first ++ more.bytes; state = more.state })

@@ -1,6 +1,7 @@
 -- What holds of each state: its terms are over the bytes of its kept input, of which there are at most 64, and its conjuncts have
 -- one bit.
-use Rattle.std.specs.Prelude.{ℕ, ◌<◌, ◌≤◌, ◌^◌, List, [], ◌∷◌, length, Option}
+use Rattle.std.specs.Prelude.{◌≡◌, ℕ, ◌<◌, ◌≤◌, ◌^◌, List, [], ◌∷◌, length, Option}
+use Rattle.terms.specs.Tree.{Tree, width_of}
 use Rattle.flat_ir.specs.declared.program.GlobalVar.{GlobalVar}
 use Rattle.flat_ir.specs.declared.program.InitByte.{InitByte}
 use Rattle.flat_ir.specs.declared.program.InitByte.TheVariants as init
@@ -78,3 +79,7 @@ LivingFits n Dead = Unit {0}
 abbrev pub ReadFits : ℕ → Read → Type 0
 ReadFits n (Byte b) = ByteFits n b
 ReadFits n (Undecided t) = IsTermOf n 1 t
+
+abbrev pub HaveOneBit : List Tree → Type 0
+HaveOneBit [] = Unit {0}
+HaveOneBit (t ∷ ts) = (width_of t ≡ 1) × HaveOneBit ts

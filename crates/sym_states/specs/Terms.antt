@@ -252,10 +252,9 @@ abbrev pub and_none : Tree → List Tree → Tree
 and_none t [] = t
 and_none t (u ∷ us) = and_none (folded_two (Bin op.And) t (negation u)) us
 
--- the 'and' of the negations, from the left, or 1 if there are none
+-- the 'and' of the negations, from the left, or 1 if there are none: folding leaves out the 1 of one bit
 abbrev pub none_of : List Tree → Tree
-none_of [] = number 1 1
-none_of (t ∷ ts) = and_none (negation t) ts
+none_of ts = and_none (number 1 1) ts
 
 -- the sides of a switch: its cases in order, and the default
 abbrev pub switch_sides : Tree → List SwitchCase → List Tree
