@@ -1,5 +1,5 @@
 -- What is done to a state keeps what holds of it.
-use Rattle.std.proofs.Common.{◌≡◌, ℕ, zero, suc, List, [], ◌∷◌, ◌++◌, length, map, slice_set, Option, Some, None}
+use Rattle.std.proofs.Common.{ℕ, zero, suc, List, [], ◌∷◌, ◌++◌, length, slice_set, Option, Some, None}
 use Rattle.flat_ir.specs.declared.names.RegId.{RegId}
 use Rattle.sym_bytes.specs.Entry.{Entry}
 use Rattle.sym_bytes.specs.Value.{SymValue}
@@ -7,7 +7,7 @@ use Rattle.leaves.specs.Events.{Event}
 use Rattle.leaves.specs.Fitting.{ValueFits, ValueFitsIf, EntryFits, EventFits, EventsFit}
 use Rattle.sym_states.specs.declared.frames.Place.{Place}
 use Rattle.sym_states.specs.Fitting.{RegsFit, StateFits}
-use Rattle.sym_states.specs.States.{Frame, State, appended, shown, in_frame, counted, set, set_if}
+use Rattle.sym_states.specs.States.{Frame, State, appended, shown, in_frame, counted, set_if}
 
 pub events-append : (n : ℕ) (es fs : List Event) → EventsFit n es → EventsFit n fs → EventsFit n (es ++ fs)
 events-append n [] fs h k = k

@@ -1,5 +1,5 @@
 -- What memory answers is over the first n bytes of input, where its log is.
-use Rattle.std.proofs.Common.{◌≡◌, ℕ, zero, suc, ◌+◌, ◌<◌, ◌≤◌, ◌^◌, Bool, true, false, List, [], ◌∷◌, ◌++◌, length, Option, Some, None, refl, arith, lit≤}
+use Rattle.std.proofs.Common.{ℕ, zero, suc, ◌+◌, ◌<◌, ◌≤◌, ◌^◌, Bool, true, false, List, [], ◌∷◌, ◌++◌, length, Option, Some, None, arith, lit≤}
 use Rattle.std.specs.Prelude.{cond, slice_get}
 use Rattle.std.specs.List.{list_any}
 use Rattle.bitnum.specs.Number.{Number}
@@ -16,17 +16,17 @@ use Rattle.flat_ir.specs.declared.program.GlobalVar.{GlobalVar}
 use Rattle.flat_ir.specs.declared.program.InitByte.{InitByte}
 use Rattle.flat_ir.specs.declared.program.InitByte.TheVariants as init
 use Rattle.flat_ir.specs.History.{same_object, size_of_global}
-use Rattle.sym_bytes.specs.Answers.{Byte, Undecided, Alive, Dead}
+use Rattle.sym_bytes.specs.Answers.{Byte, Dead}
 use Rattle.sym_bytes.specs.Building.{number, wide, equal, behind}
 use Rattle.sym_bytes.specs.Byte as byte
 use Rattle.sym_bytes.specs.Byte.{SymByte}
 use Rattle.sym_bytes.specs.Entry as entry
 use Rattle.sym_bytes.specs.Entry.{Entry}
 use Rattle.sym_bytes.specs.Joining.{int_of}
-use Rattle.log_laws.specs.Logs.{Fill, Did, Marked, Log, filled, seen_at, cells_of, life_of, is_free_of, newest_size, alive_with, life_among, life, puts_in, output, same_location}
+use Rattle.log_laws.specs.Logs.{Fill, Did, Marked, Log, filled, seen_at, cells_of, life_of, is_free_of, newest_size, alive_with, life, puts_in, output, same_location}
 use Rattle.log_laws.specs.Reading.{Candidate, Chain, surely, or_else, candidates_of, sure_if, sure_of, open_if, open_of, chained, chain_through, initial_byte, byte_or_zero, init_of, initial_bytes, is_zero, scan_step, scanned, initial_at, chain_of, choose, term_of, undecided, answer_of, read_byte}
-use Rattle.leaves.specs.Fitting.{IsTermOf, AreTermsOf, ByteFits, BytesFit, EntryFits, EntriesFit}
-use Rattle.sym_states.specs.Fitting.{FillsFit, LogFits, InitFits, InitsFit, GlobalFits, GlobalsFit, LivingFits, ReadFits}
+use Rattle.leaves.specs.Fitting.{IsTermOf, AreTermsOf, ByteFits, BytesFit, EntriesFit}
+use Rattle.sym_states.specs.Fitting.{FillsFit, LogFits, InitFits, InitsFit, GlobalsFit, LivingFits, ReadFits}
 use Rattle.sym_states.proofs.Widths.{equal-fits, choice-fits, wide-fits, byte-fits, behind-fits}
 
 -- ---- the log as a location sees it
@@ -166,12 +166,12 @@ through-fits : (n : ℕ) (known : List Tree) (x : ObjectName) (at : Tree) (es : 
 through-fits n known x at [] rest a h k = k
 through-fits n known x at (entry.Write y offset bytes ∷ es) rest a h k =
     let cs = candidates_of at offset 0 bytes in
-    let few : 0 + length bytes ≤ 2 ^ 64 = omega (arith, h.0.1.0) in
-    let fit = candidates-fit n at offset 0 bytes a h.0.0 few h.0.1.1 in
+    let few : 0 + length bytes ≤ 2 ^ 64 = omega (arith, h.0.1) in
+    let fit = candidates-fit n at offset 0 bytes a h.0.0 few h.0.2 in
     let behind_it = through-fits n known x at es rest a h.1 k in
     chain-if n (same_object x y) (chained (sure_of known cs) (open_of known cs) (chain_through known x at es rest)) (chain_through known x at es rest)
-      (chained-fits n (sure_of known cs) (open_of known cs) (chain_through known x at es rest) (sure-fits n known cs fit) (open-fits n known cs fit) behind_it)
-      behind_it
+    (chained-fits n (sure_of known cs) (open_of known cs) (chain_through known x at es rest) (sure-fits n known cs fit) (open-fits n known cs fit) behind_it)
+    behind_it
 through-fits n known x at (entry.Alloc y size ∷ es) rest a h k = through-fits n known x at es rest a h.1 k
 through-fits n known x at (entry.Free y ∷ es) rest a h k = through-fits n known x at es rest a h.1 k
 through-fits n known x at (entry.Put t ∷ es) rest a h k = through-fits n known x at es rest a h.1 k
@@ -193,7 +193,7 @@ scanned-fits n known at k (b ∷ bs) a few h =
     let more : (k + 1) + length bs ≤ 2 ^ 64 = omega (arith, few) in
     let rest = scanned-fits n known at (k + 1) bs a more h.1 in
     chain-if n (is_zero b) (scanned known at (k + 1) bs) (scan_step (answer known (equal (wide k) at)) (equal (wide k) at) (initial_byte b) (scanned known at (k + 1) bs)) rest
-      (step-fits n (answer known (equal (wide k) at)) (equal (wide k) at) (initial_byte b) (scanned known at (k + 1) bs) (equal-fits n 64 (wide k) at (wide-fits n k below) a) (initial-fits n b h.0) rest)
+    (step-fits n (answer known (equal (wide k) at)) (equal (wide k) at) (initial_byte b) (scanned known at (k + 1) bs) (equal-fits n 64 (wide k) at (wide-fits n k below) a) (initial-fits n b h.0) rest)
 
 byte_or_zero-fits : (n : ℕ) (bs : List InitByte) (k : ℕ) → InitsFit bs → ByteFits n (byte_or_zero (slice_get bs k))
 byte_or_zero-fits n [] k h = byte-fits n 0 (lit≤ tt)
@@ -253,5 +253,5 @@ pub read-fits : (n : ℕ) (globals : List GlobalVar) (known : List Tree) (x : Ob
 read-fits n globals known x at log gs h a =
     let begins = begins-fit globals x gs in
     answer-fits n (chain_of globals known x at (seen_at (cells_of x) log))
-      (through-fits n known x at (seen_at (cells_of x) log) (initial_at (constant_of at) known at (initial_bytes globals x)) a (seen-fit n (cells_of x) log h)
-        (initial_at-fits n (constant_of at) known at (initial_bytes globals x) a begins.few begins.inits))
+    (through-fits n known x at (seen_at (cells_of x) log) (initial_at (constant_of at) known at (initial_bytes globals x)) a (seen-fit n (cells_of x) log h)
+    (initial_at-fits n (constant_of at) known at (initial_bytes globals x) a begins.few begins.inits))

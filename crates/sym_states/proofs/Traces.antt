@@ -1,5 +1,5 @@
 -- Small programs whose explorations show their branches and loads, and read memory at an offset that the input decides.
-use Rattle.std.proofs.Common.{◌≡◌, ℕ, List, [], ◌∷◌, map, Some, refl}
+use Rattle.std.proofs.Common.{◌≡◌, List, [], ◌∷◌, map, Some, refl}
 use Rattle.terms.specs.declared.term.Unary.TheVariants.{Not, Zext}
 use Rattle.terms.specs.declared.term.Binary.TheVariants.{Eq}
 use Rattle.terms.specs.Folding.{folded_one, folded_two, folded_choice}
@@ -20,8 +20,8 @@ use Rattle.leaves.specs.Events as events
 use Rattle.leaves.specs.Events.{Branch, Leaf, Told, told_of}
 use Rattle.sym_states.specs.Exploring.{Setting}
 use Rattle.sym_states.specs.Running.{explored}
-use Rattle.sym_states.proofs.Rows.{r, at, func, int, reg, function, main_of}
-use Rattle.sym_states.proofs.Forks.{Line, Complete, Fault, lines, first_of, getchar, compares_setting}
+use Rattle.sym_states.proofs.Rows.{r, at, func, int, reg, main_of}
+use Rattle.sym_states.proofs.Forks.{Complete, Fault, lines, first_of, getchar, compares_setting}
 
 -- the byte that was read, in 32 bits, is 65
 abbrev is_65 : Tree
@@ -78,18 +78,18 @@ puts = record {
   reg_names = [];
   result = Some (type.Int 32);
   nodes = node.Jump (at 10)
-    ∷ node.Load (reg 1) (r 2) (at 2)
-    ∷ node.Cmp pred.Eq (reg 2) (operand.Int (record { width = 8; bits = 0 })) (r 3) (at 3)
-    ∷ node.Branch (reg 3) (at 8) (at 4)
-    ∷ node.Cast to.Zext (reg 2) (r 4) (at 5)
-    ∷ node.Put (reg 4) (at 6)
-    ∷ node.Gep (reg 1) (Index 1 (operand.Int (record { width = 64; bits = 1 })) ∷ []) (r 5) (at 7)
-    ∷ node.Jump (at 11)
-    ∷ node.Put (int 10) (at 9)
-    ∷ node.Ret (Some (int 0))
-    ∷ node.Moves (record { register = r 1; value = reg 0 } ∷ []) (at 1)
-    ∷ node.Moves (record { register = r 1; value = reg 5 } ∷ []) (at 1)
-    ∷ [];
+      ∷ node.Load (reg 1) (r 2) (at 2)
+      ∷ node.Cmp pred.Eq (reg 2) (operand.Int (record { width = 8; bits = 0 })) (r 3) (at 3)
+      ∷ node.Branch (reg 3) (at 8) (at 4)
+      ∷ node.Cast to.Zext (reg 2) (r 4) (at 5)
+      ∷ node.Put (reg 4) (at 6)
+      ∷ node.Gep (reg 1) (Index 1 (operand.Int (record { width = 64; bits = 1 })) ∷ []) (r 5) (at 7)
+      ∷ node.Jump (at 11)
+      ∷ node.Put (int 10) (at 9)
+      ∷ node.Ret (Some (int 0))
+      ∷ node.Moves (record { register = r 1; value = reg 0 } ∷ []) (at 1)
+      ∷ node.Moves (record { register = r 1; value = reg 5 } ∷ []) (at 1)
+      ∷ [];
   clashes = [];
   bad_edges = [];
 }

@@ -1,16 +1,16 @@
 -- Terms over the first n bytes of input, of a width.
-use Rattle.std.proofs.Common.{◌≡◌, ℕ, ◌<◌, ◌^◌, refl, sym, ◌∙◌, arith, lit≤}
+use Rattle.std.proofs.Common.{ℕ, ◌<◌, ◌^◌, refl, sym, ◌∙◌, lit≤}
 use Rattle.bitnum.specs.declared.BinOp.{BinOp}
 use Rattle.bitnum.specs.declared.BinOp.TheVariants as op
 use Rattle.terms.specs.declared.term.Unary.TheVariants.{Not}
 use Rattle.terms.specs.declared.term.Binary.TheVariants.{Bin, Eq, Ult}
-use Rattle.terms.specs.Folding.{folded_one, folded_two, folded_choice}
+use Rattle.terms.specs.Folding.{folded_two, folded_choice}
 use Rattle.terms.specs.Tree.{Tree}
 use Rattle.terms.proofs.Folds.{width-folded_one, width-folded_two, width-folded_choice}
 use Rattle.terms.proofs.Kept.{tree-folded_one, tree-folded_two, tree-folded_choice, reads-folded_one, reads-folded_two, reads-folded_choice}
 use Rattle.term_store.specs.Condition.{negation}
 use Rattle.sym_bytes.specs.Building.{number, wide, equal, behind}
-use Rattle.leaves.specs.Fitting.{IsTerm, IsTermOf}
+use Rattle.leaves.specs.Fitting.{IsTermOf}
 
 pub calculated-fits : (n w : ℕ) (o : BinOp) (a b : Tree) → IsTermOf n w a → IsTermOf n w b → IsTermOf n w (folded_two (Bin o) a b)
 calculated-fits n w o a b h k =
@@ -46,7 +46,7 @@ pub choice-fits : (n w : ℕ) (c a b : Tree) → IsTermOf n 1 c → IsTermOf n w
 choice-fits n w c a b g h k =
     let alike = h.has_width ∙ sym k.has_width in
     record {
-      term = record { tree = tree-folded_choice c a b (g.term.tree, (h.term.tree, (k.term.tree, (g.has_width, alike)))); reads = reads-folded_choice n c a b g.term.reads h.term.reads k.term.reads };
+      term = record { tree = tree-folded_choice c a b (g.term.tree, h.term.tree, k.term.tree, g.has_width, alike); reads = reads-folded_choice n c a b g.term.reads h.term.reads k.term.reads };
       has_width = width-folded_choice c a b alike ∙ h.has_width;
     }
 

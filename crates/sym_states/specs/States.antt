@@ -22,7 +22,7 @@ use Rattle.flat_ir.specs.Whole.{successors_of}
 use Rattle.sym_bytes.specs.declared.names.CallId.{CallId}
 use Rattle.sym_bytes.specs.Entry.{Entry}
 use Rattle.sym_bytes.specs.Value.{SymValue}
-use Rattle.log_laws.specs.Logs.{Item, Did}
+use Rattle.log_laws.specs.Logs.{Did}
 use Rattle.write_log.specs.Memory.{Memory, with_item}
 use Rattle.leaves.specs.declared.options.Cause.{Cause}
 use Rattle.leaves.specs.Events as leaf

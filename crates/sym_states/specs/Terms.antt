@@ -1,14 +1,14 @@
 -- The values that nodes make of their operands. All is total: where widths don't fit a node, as in no program that was checked,
 -- a term is made all the same, and so each test and each side is a term of one bit.
-use Rattle.std.specs.Prelude.{ℕ, ◌+◌, ◌-◌, ◌*◌, ◌/◌, ◌%◌, ◌^◌, ◌==◌, ◌&&◌, nat_lt, nat_le, Bool, true, List, [], ◌∷◌, ◌++◌, length, map, Option, Some, None, slice_get, if◌then◌else◌}
+use Rattle.std.specs.Prelude.{ℕ, ◌-◌, ◌*◌, ◌/◌, ◌^◌, ◌==◌, ◌&&◌, nat_lt, nat_le, Bool, true, List, [], ◌∷◌, ◌++◌, Option, Some, None, slice_get, if◌then◌else◌}
 use Rattle.bitnum.specs.declared.BinOp.{BinOp}
 use Rattle.bitnum.specs.declared.BinOp.TheVariants as op
 use Rattle.bitnum.specs.declared.Pred.{Pred}
 use Rattle.bitnum.specs.declared.Pred.TheVariants as pred
 use Rattle.terms.specs.Tree.{Tree, constant, input, width_of}
 use Rattle.terms.specs.Folding.{folded_one, folded_two, folded_choice}
-use Rattle.terms.specs.declared.term.Unary.TheVariants.{Not, Zext, Sext, Trunc}
-use Rattle.terms.specs.declared.term.Binary.TheVariants.{Bin, Eq, Ult, Slt}
+use Rattle.terms.specs.declared.term.Unary.TheVariants.{Zext, Sext, Trunc}
+use Rattle.terms.specs.declared.term.Binary.TheVariants.{Bin, Ult, Slt}
 use Rattle.term_store.specs.Condition.{negation}
 use Rattle.flat_ir.specs.declared.names.ObjectName.TheVariants as object
 use Rattle.flat_ir.specs.declared.nodes.CastOp.{CastOp}

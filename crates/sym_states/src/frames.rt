@@ -158,7 +158,10 @@ impl<H: Home> Frame<H> {
         ensures { IfOk result (λ step. step ≡ spec.step_now self.now) }
     {
         let node = self.place.node();
-        let count = self.count(node.0 as usize).checked_add(1).ok_or(AllocError)?;
+        let count = self
+            .count(node.0 as usize)
+            .checked_add(1)
+            .ok_or(AllocError)?;
         Ok(CallStep {
             func: self.func,
             node,

@@ -4,8 +4,6 @@
 
 mod callers;
 mod frames;
-mod state;
 
 pub use callers::Callers;
 pub use frames::{Frame, Place, Snapshot, Target, copy_values};
-pub use state::{Popped, State};
