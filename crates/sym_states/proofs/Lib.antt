@@ -4,3 +4,6 @@ mod Traces
 pub mod Fitted
 pub mod Widths
 pub mod Remembered
+pub mod Evaluating
+pub mod Steady
+pub mod Splits

@@ -8,3 +8,4 @@ pub mod Attempts
 pub mod Merging
 pub mod Exploring
 pub mod Running
+pub mod Splitting

@@ -4,6 +4,8 @@
 
 mod callers;
 mod frames;
+mod laws;
 
 pub use callers::Callers;
 pub use frames::{Frame, Place, Snapshot, Target, copy_values};
+pub use laws::{attempts_reach_one_answer, computed_leaves_are_explored, tests_split_inputs};
