@@ -1,0 +1,4 @@
+pub mod Events
+pub mod Fitting
+pub mod Shown
+pub mod Claims

@@ -1,0 +1,11 @@
+pub mod Verdicts
+pub mod States
+pub mod Fitting
+pub mod Shown
+pub mod Terms
+pub mod Sides
+pub mod Attempts
+pub mod Merging
+pub mod Exploring
+pub mod Running
+pub mod Splitting
