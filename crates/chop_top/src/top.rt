@@ -1,6 +1,6 @@
 //! The top call.
-ghost use Rattle.std.specs.Prelude.{◌≡◌, ℕ, ◌<◌, ◌≤◌, ◌-◌, ◌^◌, None, List, map, length, string_bytes, IfOk};
-ghost use Rattle.chop_words.specs.Words.{AreInRange, IsInRange, Explored, Ran, Printed, Sited, Sliced, wanted_by};
+ghost use Rattle.std.specs.Prelude.{◌≡◌, ℕ, ◌<◌, ◌≤◌, ◌-◌, ◌^◌, None, Some, List, map, length, string_bytes, IfOk};
+ghost use Rattle.chop_words.specs.Words.{AreInRange, IsInRange, Explored, Ran, Printed, Sited, Sliced, wanted, wanted_by};
 ghost use Rattle.chop_top.specs.Accepted.{Reads};
 ghost use Rattle.chop_top.specs.Outcomes.{Reading, Outcome, IsComplete, Answered, Judged, Text, limit, IsReport, IsLine, text_or_memory};
 
@@ -220,6 +220,26 @@ fn judged(alloc: Global, command: &Command, bytes: &[u8]) -> Answer
     }
 }
 
+// What is to be written for a command, or why nothing is.
+fn answer_for<F: Files>(alloc: Global, command: &Command, files: &mut F) -> Answer
+    requires range { IsInRange (wanted_by command.now) }
+    requires fresh { (F.state files.old).asked ≡ None }
+    requires room { (F.state files.old).faults < 2 ^ 64 - 1 }
+    ensures { (words : List (List ℕ)) → wanted words ≡ Some (wanted_by command.now) → Answered result (record { words = words; before = F.state files.old; after = F.state files.new }) }
+{
+    let Ok(file) = command.file().clone() else {
+        return Answer::Memory;
+    };
+    match read_whole(alloc, files, file, LIMIT) {
+        Ok(bytes) => judged(alloc, command, bytes.as_slice()),
+        Err(ReadError::TooLarge) => {
+            text_or_memory(Status::Refused, refused_line(alloc, "TooLarge"))
+        }
+        Err(ReadError::Fault) => Answer::ReadFault,
+        Err(ReadError::Memory) => Answer::Memory,
+    }
+}
+
 // What is to be written, or why nothing is.
 fn answer_to<F: Files>(alloc: Global, words: &[String], files: &mut F) -> Answer
     requires fresh { (F.state files.old).asked ≡ None }
@@ -233,17 +253,7 @@ fn answer_to<F: Files>(alloc: Global, words: &[String], files: &mut F) -> Answer
         }
         Err(UsageError::Memory) => return Answer::Memory,
     };
-    let Ok(file) = command.file().clone() else {
-        return Answer::Memory;
-    };
-    match read_whole(alloc, files, file, LIMIT) {
-        Ok(bytes) => judged(alloc, &command, bytes.as_slice()),
-        Err(ReadError::TooLarge) => {
-            text_or_memory(Status::Refused, refused_line(alloc, "TooLarge"))
-        }
-        Err(ReadError::Fault) => Answer::ReadFault,
-        Err(ReadError::Memory) => Answer::Memory,
-    }
+    answer_for(alloc, &command, files)
 }
 
 // Writes a text, whose status it then is.
