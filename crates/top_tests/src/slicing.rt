@@ -108,6 +108,85 @@ f:6 -> 5
 f:7 -> 5
 ";
 
+const RECURSION: &str = "@g = global i32 0
+define void @f(i32 %n) {
+e:
+  %z = icmp eq i32 %n, 0
+  br i1 %z, label %d, label %r
+r:
+  %m = sub i32 %n, 1
+  %w = mul i32 %n, 3
+  call void @f(i32 %m)
+  store i32 %n, ptr @g
+  br label %d
+d:
+  ret void
+}
+define i32 @main() {
+  call void @f(i32 3)
+  ret i32 0
+}
+";
+
+const FRAME: &str = "declare i32 @putchar(i32)
+define void @set(ptr %p, i32 %v) {
+  store i32 %v, ptr %p
+  ret void
+}
+define i32 @f(i32 %x) {
+  %a = alloca i32
+  %b = alloca i32
+  store i32 7, ptr %b
+  call void @set(ptr %a, i32 %x)
+  %u = load i32, ptr %b
+  %o = call i32 @putchar(i32 %u)
+  %v = load i32, ptr %a
+  ret i32 %v
+}
+define i32 @main() {
+  %r = call i32 @f(i32 5)
+  ret i32 %r
+}
+";
+
+const ENDLESS: &str = "define void @spin() {
+e:
+  br label %l
+l:
+  br label %l
+}
+define i32 @f(i32 %x) {
+  %z = icmp eq i32 %x, 0
+  br i1 %z, label %a, label %b
+a:
+  call void @spin()
+  br label %b
+b:
+  ret i32 4
+}
+define i32 @main() {
+  %r = call i32 @f(i32 5)
+  ret i32 %r
+}
+";
+
+const SLICE_OF_RECURSION: &str = "f entry -> 0
+f:0 -> 1
+f:1 -> end 2
+f:2 -> 4
+f:4 -> 5
+f:5 -> end
+";
+
+const SLICE_OF_FRAME: &str = "set entry -> 0
+set:0 -> end
+f entry -> 0
+f:0 -> 3
+f:3 -> 6
+f:6 -> 7
+f:7 -> end
+";
+
 #[test]
 fn slices(rt: HostRuntime) -> Result<(), Fail> {
     for (text, location, lines) in [
@@ -116,6 +195,9 @@ fn slices(rt: HostRuntime) -> Result<(), Fail> {
         (FAR_LOOP, "output", "f entry -> end\n"),
         (LATE_SUM, "result", SLICE_OF_LATE_SUM),
         (LATE_CALL, "result", SLICE_OF_LATE_CALL),
+        (RECURSION, "cells:@g", SLICE_OF_RECURSION),
+        (FRAME, "result", SLICE_OF_FRAME),
+        (ENDLESS, "result", "f entry -> 4\nf:4 -> end\n"),
     ] {
         let got = answered(&rt, rt.alloc(), &["slice", "F", "f", location], text)?;
         assert_eq!(rt; got.0, Status::Done, "at {location}");
