@@ -34,6 +34,32 @@ define i32 @main() {
   ret i32 0
 }
 MODULE
+# The same for the other interpreter, which calls the machine's own memcpy where it isn't written out.
+cat >"$work/memcpy.other.ll" <<'MODULE'
+@from = global [60000 x i8] zeroinitializer
+@to = global [60000 x i8] zeroinitializer
+define ptr @copy(ptr %d, ptr %s, i64 %n) {
+e:
+  br label %l
+l:
+  %i = phi i64 [ 0, %e ], [ %j, %k ]
+  %t = icmp ult i64 %i, %n
+  br i1 %t, label %k, label %x
+k:
+  %p = getelementptr i8, ptr %d, i64 %i
+  %q = getelementptr i8, ptr %s, i64 %i
+  %b = load i8, ptr %q
+  store i8 %b, ptr %p
+  %j = add i64 %i, 1
+  br label %l
+x:
+  ret ptr %d
+}
+define i32 @main() {
+  %r = call ptr @copy(ptr @to, ptr @from, i64 60000)
+  ret i32 0
+}
+MODULE
 cat >"$work/fibonacci.ll" <<'MODULE'
 define i32 @fibonacci(i32 %n) {
 e:
@@ -54,15 +80,14 @@ define i32 @main() {
   ret i32 0
 }
 MODULE
-# Microseconds of one run, the least of three.
+# Milliseconds of processor time of one run, the least of three.
 spent() {
-    local least=0 started ended
+    local least="" took TIMEFORMAT=%U
     for _ in 1 2 3; do
-        started=$(date +%s%N)
-        "$@" >/dev/null
-        ended=$((($(date +%s%N) - started) / 1000))
-        if [ "$least" -eq 0 ] || [ "$ended" -lt "$least" ]; then
-            least=$ended
+        took=$({ time "$@" >/dev/null 2>&1; } 2>&1)
+        took=$((10#${took/./}))
+        if [ -z "$least" ] || [ "$took" -lt "$least" ]; then
+            least=$took
         fi
     done
     echo "$least"
@@ -72,10 +97,10 @@ run() {
 }
 other=()
 if command -v lli >/dev/null; then
-    # Older ones need to be told that pointers have no types of their own.
-    for interpreter in "lli -force-interpreter" "lli -force-interpreter -opaque-pointers"; do
-        if $interpreter "$work/start.ll" 2>/dev/null; then
-            read -ra other <<<"$interpreter"
+    # The newer engine of lli compiles whatever it is told; older ones need to be told that pointers have no types of their own.
+    for flags in "-jit-kind=mcjit -force-interpreter -opaque-pointers" "-jit-kind=mcjit -force-interpreter" "-force-interpreter"; do
+        if lli $flags "$work/start.ll" 2>/dev/null; then
+            read -ra other <<<"lli $flags"
             break
         fi
     done
@@ -92,11 +117,15 @@ for name in loop memcpy fibonacci; do
     esac
     time=$(spent run "$work/$name.ll")
     other_time=0
-    [ "${#other[@]}" -eq 0 ] || other_time=$(spent "${other[@]}" "$work/$name.ll")
+    module=$work/$name.ll
+    [ ! -f "$work/$name.other.ll" ] || module=$work/$name.other.ll
+    if [ "${#other[@]}" -gt 0 ] && "${other[@]}" "$module" >/dev/null 2>&1; then
+        other_time=$(spent "${other[@]}" "$module")
+    fi
     awk -v name="$name" -v steps="${line##*steps=}" -v time="$time" -v start="$start" -v other="$other_time" -v other_start="$other_start" 'BEGIN {
         t = time - start; if (t < 1) t = 1;
-        printf "%s: %d steps, %.2f million steps a second", name, steps, steps / t;
-        if (other > 0) { o = other - other_start; if (o < 1) o = 1; printf ", %.0f ms, lli %.0f ms", t / 1000, o / 1000; }
+        printf "%s: %d steps, %.2f million steps a second", name, steps, steps / t / 1000;
+        if (other > 0) { o = other - other_start; if (o < 1) o = 1; printf ", %.0f ms, lli %.0f ms", t, o; }
         printf "\n";
     }'
 done
