@@ -1,5 +1,5 @@
 #!/usr/bin/env bash
-# How fast `run` runs a module: steps a second of a loop that counts, of a memcpy of 60,000 bytes and of a recursive Fibonacci number, the time
+# How fast `run` runs a module: steps a second of processor time of a loop that counts, of a memcpy of 60,000 bytes and of a recursive Fibonacci number, the time
 # of a module of one step taken off. Where `lli` is installed the time of its interpreter for the same module stands beside it.
 set -euo pipefail
 cd "$(dirname "$0")/.."

@@ -212,6 +212,6 @@ define i32 @main() {
 
 #[test]
 fn recursion_without_end_is_spent(rt: HostRuntime) -> Result<(), Fail> {
-    assert!(rt; is_spent(&ended(rt.alloc(), DEEP, &[], 600_001)?, &[]));
+    assert!(rt; is_spent(&ended(rt.alloc(), DEEP, &[], 1_000_000)?, &[]));
     Ok(())
 }
