@@ -1,5 +1,5 @@
 //! Names of functions, nodes, registers, sites, frames and objects.
-ghost use Rattle.std.specs.Prelude.{◌≡◌, ◌∷◌, [], ◌↔◌, IsTrue, IfOk};
+ghost use Rattle.std.specs.Prelude.{◌≡◌, ◌∷◌, [], ◌↔◌, IsTrue, IfOk, MatchOption};
 ghost use Rattle.flat_ir.specs.Digest as spec;
 ghost use Rattle.flat_ir.specs.ObjectDigest.{digest_of_object};
 
@@ -139,6 +139,16 @@ impl FrameName {
             digest,
             calls: Calls::Call(step, caller),
         })
+    }
+
+    /// The newest call of the name and the frame that made it; main's first frame has none.
+    pub fn newest(&self) -> Option<(CallStep, &FrameName)>
+        ensures { MatchOption result (self.now ≡ []) (λ newest. self.now ≡ newest.0 ∷ newest.1.now) }
+    {
+        match &self.calls {
+            Calls::Main => None,
+            Calls::Call(step, caller) => Some((*step, caller)),
+        }
     }
 
     pub fn digest(&self) -> u64

@@ -134,8 +134,12 @@ fn are_pending<H: Home>(call: CallId, of: RegType, j: u8, bytes: &[SymByte<H>]) 
     }
 }
 
-// The calls with one more, in ascending order, none of them twice.
-fn put_call(alloc: Global, call: CallId, calls: &[CallId]) -> Result<Sequence<CallId>, AllocError>
+/// The calls with one more, in ascending order, none of them twice.
+///
+/// # Errors
+///
+/// No memory.
+pub fn put_call(alloc: Global, call: CallId, calls: &[CallId]) -> Result<Sequence<CallId>, AllocError>
     ensures { IfOk result (λ list. list ≡ spec.put_call call calls.now) }
 {
     let mut list = Sequence::new(alloc);
