@@ -139,7 +139,11 @@ fn are_pending<H: Home>(call: CallId, of: RegType, j: u8, bytes: &[SymByte<H>]) 
 /// # Errors
 ///
 /// No memory.
-pub fn put_call(alloc: Global, call: CallId, calls: &[CallId]) -> Result<Sequence<CallId>, AllocError>
+pub fn put_call(
+    alloc: Global,
+    call: CallId,
+    calls: &[CallId],
+) -> Result<Sequence<CallId>, AllocError>
     ensures { IfOk result (λ list. list ≡ spec.put_call call calls.now) }
 {
     let mut list = Sequence::new(alloc);
