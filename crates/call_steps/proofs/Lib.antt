@@ -1,0 +1,4 @@
+pub mod Ending
+pub mod Freed
+pub mod Moved
+pub mod Unset

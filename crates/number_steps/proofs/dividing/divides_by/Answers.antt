@@ -1,0 +1,15 @@
+use Rattle.std.proofs.Common.{length}
+use Rattle.number_steps.proofs.Fitted.{nonzero-truth}
+use Rattle.number_steps.proofs.dividing.divides_by.Goals as goal
+
+pub must-requires-clause-budget : goal.must-requires-clause-budget
+must-requires-clause-budget g c κs within = c.requires.budget
+
+pub must-requires-clause-fitting : goal.must-requires-clause-fitting
+must-requires-clause-fitting g c κs within = c.requires.fitting
+
+pub must-requires-clause-fits : goal.must-requires-clause-fits
+must-requires-clause-fits g c κs within = c.requires.fits
+
+pub must-requires-clause-truth : goal.must-requires-clause-truth
+must-requires-clause-truth g c κs within = nonzero-truth (length c.args.state.kept) c.args.b.now c.in_ok-holds.holds c.in_ok-holds.ensures.value c.requires.divisor

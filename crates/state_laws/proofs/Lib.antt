@@ -1,0 +1,15 @@
+pub mod Terms
+pub mod Values
+pub mod States
+pub mod Sides
+pub mod Accesses
+pub mod Programs
+pub mod Ends
+pub mod Attempted
+pub mod FirmValues
+pub mod FirmLogs
+pub mod Unneeded
+pub mod OneResult
+pub mod Roots
+pub mod Merged
+pub mod Explored

@@ -1,0 +1,4 @@
+pub mod Kept
+pub mod Skipless
+pub mod Results
+pub mod Explored

@@ -1,0 +1,4 @@
+mod Turning
+pub mod Stepping
+mod Walked
+mod Placed

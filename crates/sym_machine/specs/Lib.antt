@@ -1,0 +1,4 @@
+pub mod Explored
+pub mod Kinds
+pub mod Numbers
+pub mod Turns
