@@ -1,0 +1,4 @@
+pub mod Terms
+pub mod Values
+pub mod Report
+pub mod Sample

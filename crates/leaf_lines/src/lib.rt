@@ -1,0 +1,11 @@
+//! The report of an exploration: its leaves as lines, with their events and conditions.
+#![tactic(auto)]
+
+mod lines;
+mod objects;
+mod shown;
+mod term_texts;
+#[cfg(test)]
+mod tests;
+
+pub use lines::report;
