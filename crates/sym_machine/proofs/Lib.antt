@@ -1,4 +1,4 @@
 mod Turning
-pub mod Stepping
+mod Stepping
 mod Walked
 mod Placed

@@ -83,7 +83,7 @@ first-fits e few globals =
 first-free : (e : Setting) → HasNoCalls (first_state e)
 first-free e = record { frame = unset-firm (drop 0 (regs_of (func_at e.program e.program.main))); callers = tt; log = tt; snapshots = refl; path = tt; target = refl }
 
-pub first-ready : (e : Setting) → e.inputs ≤ 64 → GlobalsFit e.program.globals → IsReady e.inputs (Go (first_state e))
+first-ready : (e : Setting) → e.inputs ≤ 64 → GlobalsFit e.program.globals → IsReady e.inputs (Go (first_state e))
 first-ready e few globals = record { fits = first-fits e few globals; no_calls = first-free e }
 
 -- ---- turns

@@ -25,11 +25,11 @@ use term_store::Conditions;
 use terms::Terms;
 use write_log::SymMemory;
 
-/// What explores: the machine, and the limits.
+// What explores: the machine, and the limits.
 #[derive(Drop)]
-pub struct Exploration<'a, H: Home, D: Decide> {
-    pub machine: Machine<'a, H, D>,
-    pub options: Options,
+struct Exploration<'a, H: Home, D: Decide> {
+    machine: Machine<'a, H, D>,
+    options: Options,
 }
 
 fn zeros(alloc: Global, count: u8) -> Result<Sequence<u8>, AllocError>
@@ -79,12 +79,8 @@ fn next<H: Home, K: SymMemory>(waiting: &mut Vec<Child<H, K>>) -> Option<Child<H
 }
 
 impl<'a, H: Home, D: Decide> Exploration<'a, H, D> {
-    /// Main at its first node, with nothing done.
-    ///
-    /// # Errors
-    ///
-    /// No memory.
-    pub fn first<K: SymMemory>(&self) -> Result<State<H, K>, AllocError>
+    // Main at its first node, with nothing done.
+    fn first<K: SymMemory>(&self) -> Result<State<H, K>, AllocError>
         requires { IsSetUp self.now.machine.scope self.now.options }
         ensures { IfOk result (λ s. state_seen s ≡ first_state (setting_of self.now.machine.scope.program.now self.now.options)) }
     {

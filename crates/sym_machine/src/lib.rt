@@ -11,5 +11,5 @@ mod making;
 mod remembering;
 
 pub use advancing::advance;
-pub use exploring::{Exploration, explore};
+pub use exploring::explore;
 pub use fitting::program_fits;
