@@ -1,8 +1,8 @@
 -- What the parts of an attempt give goes along with the run: faults, tests, choices of ways, and the node's end.
-use Rattle.std.proofs.Common.{◌≡◌, ℕ, zero, suc, Bool, true, false, ◌==◌, ◌+◌, ◌-◌, List, [], ◌∷◌, ◌++◌, map, length, slice_set, Option, Some, None, unwrap_or, refl, sym, ◌∙◌, ap, subst, arith, append-nil}
+use Rattle.std.proofs.Common.{◌≡◌, ℕ, zero, suc, Bool, true, false, ◌==◌, ◌+◌, ◌-◌, List, [], ◌∷◌, map, length, slice_set, Option, Some, None, unwrap_or, refl, sym, ◌∙◌, ap, subst, arith, append-nil}
 use Rattle.std.specs.Prelude.{cond, slice_get, nat_lt}
 use Rattle.std.specs.List.{AllByRecursion as Each}
-use Rattle.std.proofs.lemmas.Bool.{eqb-true, eq-eqb, false≢true}
+use Rattle.std.proofs.lemmas.Bool.{eqb-true, eq-eqb}
 use Rattle.terms.specs.Tree.{Tree}
 use Rattle.terms.specs.Value.{value_of, is_met_by, are_met_by, is_yes}
 use Rattle.terms.specs.declared.term.Unary.TheVariants.{Not}
@@ -42,13 +42,13 @@ use Rattle.leaves.specs.Claims.{event_under}
 use Rattle.leaves.specs.declared.options.Cause.{Cause}
 use Rattle.leaves.specs.declared.options.Cause.TheVariants.{Shares}
 use Rattle.leaves.specs.Events as leaf
-use Rattle.leaves.specs.Fitting.{IsTermOf, AreTermsOf}
+use Rattle.leaves.specs.Fitting.{IsTermOf}
 use Rattle.sym_bytes.specs.Answers as want
 use Rattle.sym_states.specs.declared.frames.Place.TheVariants.{At}
 use Rattle.sym_states.specs.declared.frames.Target.{Target}
 use Rattle.sym_states.specs.Attempts.{knows, firm, faulted, fails_in, fails, passed, must}
 use Rattle.sym_states.specs.Sides.{Offspring, Lives, Spends, by_verdict, offspring_of, offsprings, held_if, held_side, Offer, Alone, Several, alone, offer, share_of, children_of, forks, stays, Tested, Good, Bad, Answered, tested, test, taken, choose_way}
-use Rattle.sym_states.specs.Splitting.{met_count}
+use Rattle.sym_states.specs.Splitting.{met_count, IsNeverDenied}
 use Rattle.sym_states.specs.States.{Frame, State, Context, Step, Goes, Forks, Ends, Flow, On, Over, then_flow, then_step, told, opens, here, node_of, first_node, place_after, in_frame, counted, set_if, moved, gives, unless_needed}
 use Rattle.sym_states.specs.Terms.{resolved, set_or_null, raw_in, value_in}
 use Rattle.sym_states.specs.Verdicts.{Verdict, Sat, Unsat, Spent}
@@ -57,11 +57,10 @@ use Rattle.sym_states.proofs.Widths.{negation-fits}
 use Rattle.state_laws.specs.Kept.{StateFitsAt, OfferFits}
 use Rattle.state_laws.proofs.FirmValues.{pending-none}
 use Rattle.state_laws.proofs.FirmLogs.{need-none}
-use Rattle.state_laws.proofs.Terms.{terms-append}
 use Rattle.state_laws.proofs.States.{parts_of}
 use Rattle.state_laws.proofs.Sides.{offer-fits}
 use Rattle.agreement.specs.Agreement.{RegsAgree, FrameAgrees, FramesAgree, IsRecovered, Agrees, StandsAt, ChildGoesAlong, StepGoesAlong}
-use Rattle.agreement.specs.Premises.{IsPlain, HasDistinctCases, IsNeverDenied, HasValue, IsPlainState, none_gave}
+use Rattle.agreement.specs.Premises.{IsPlain, HasDistinctCases, HasValue, IsPlainState, none_gave}
 
 -- ---- the forms that all parts share
 
@@ -382,54 +381,9 @@ offer-met : (c : Context) (i : List ℕ) (sides : List Tree) (s : State) → are
 offer-met c i sides s met one =
     elim (held_side s.condition 0 sides) as (λ o. OfferIsMet i (elim o [ Some side ↦ Alone side s | None ↦ alone (offsprings c s 0 sides) s ])) [ Some side ↦ met | None ↦ alone-met i (offsprings c s 0 sides) s one ]
 
--- a context whose verdicts never deny the input
-abbrev guard : Bool → Verdict → Verdict
-guard true Unsat = Spent
-guard true (Sat kept) = Sat kept
-guard true Spent = Spent
-guard false v = v
-
-abbrev guarded : Context → List ℕ → Context
-guarded c i = record c { verdict = λ condition n. guard (are_met_by i condition) (c.verdict condition n) }
-
-guard-right : (b : Bool) (v : Verdict) → guard b v ≡ Unsat → b ≡ false
-guard-right true Unsat h = absurd (spent-unsat h)
-  where
-    spent-unsat : Spent ≡ Unsat → ⊥
-    spent-unsat h = cc
-guard-right true (Sat kept) h = absurd (sat-unsat kept h)
-  where
-    sat-unsat : (kept : List ℕ) → Sat kept ≡ Unsat → ⊥
-    sat-unsat kept h = cc
-guard-right true Spent h = absurd (spent-unsat h)
-  where
-    spent-unsat : Spent ≡ Unsat → ⊥
-    spent-unsat h = cc
-guard-right false v h = refl
-
-guard-same : (b : Bool) (v : Verdict) → (v ≡ Unsat → b ≡ false) → guard b v ≡ v
-guard-same true Unsat h = absurd (false≢true (sym (h refl)))
-guard-same true (Sat kept) h = refl
-guard-same true Spent h = refl
-guard-same false v h = refl
-
-offspring-same : (e : Scene) (k : ℕ) (m : machine.State) (s : State) (a : Added) (t : Tree) (side : ℕ) → IsHere e k m s → IsTermOf (length e.input) 1 t → offspring_of (guarded e.c e.input) a s t side ≡ offspring_of e.c a s t side
-offspring-same e k m s Appended t side h truth =
-    let fits : AreTermsOf (length e.input) 1 (s.condition ++ t ∷ []) = terms-append (length e.input) 1 s.condition (t ∷ []) (parts_of (length e.input) s h.state.fits).condition (truth, tt) in
-    let size : length s.kept ≡ length e.input = h.state.fits.size in
-    let same = guard-same (are_met_by e.input (s.condition ++ t ∷ [])) (e.c.verdict (s.condition ++ t ∷ []) (length s.kept))
-    (λ is. e.right (s.condition ++ t ∷ []) fits (ap (e.c.verdict (s.condition ++ t ∷ [])) (sym size) ∙ is)) in
-    ap (λ v. elim (is_met_by s.kept t) [ true ↦ Lives side (s.condition ++ t ∷ []) s.kept ∷ [] | false ↦ by_verdict v side (s.condition ++ t ∷ []) ]) same
-offspring-same e k m s Held t side h truth = refl
-offspring-same e k m s Contradicted t side h truth = refl
-
 -- the input meets one child of a test
 test-met : (e : Scene) (k : ℕ) (m : machine.State) (s : State) (t : Tree) → IsHere e k m s → IsTermOf (length e.input) 1 t → met_count e.input (offsprings e.c s 0 (t ∷ negation t ∷ [])) ≡ 1
-test-met e k m s t h truth =
-    let first = offspring-same e k m s (answer s.condition t) t 0 h truth in
-    let second = offspring-same e k m s (answer s.condition (negation t)) (negation t) (0 + 1) h (negation-fits (length e.input) t truth) in
-    sym (λ j. met_count e.input (first j ++ (second j ++ [])))
-    ∙ tests_split (guarded e.c e.input) e.input s t h.met truth.term.tree truth.has_width (λ condition n is. guard-right (are_met_by e.input condition) (e.c.verdict condition n) is)
+test-met e k m s t h truth = tests_split e.c e.input s t h.state.fits.size (parts_of (length e.input) s h.state.fits).condition truth h.met e.right
 
 -- ---- what goes on with another condition
 

@@ -5,7 +5,8 @@ use Rattle.flat_ir.specs.Sound.{IsInput}
 use Rattle.sym_states.specs.Attempts.{attempt}
 use Rattle.sym_states.specs.States.{State, Context}
 use Rattle.agreement.specs.Agreement.{StandsAt, StepGoesAlong}
-use Rattle.agreement.specs.Premises.{IsPlain, HasDistinctCases, IsNeverDenied, IsPlainState, none_gave}
+use Rattle.agreement.specs.Premises.{IsPlain, HasDistinctCases, IsPlainState, none_gave}
+use Rattle.sym_states.specs.Splitting.{IsNeverDenied}
 
 -- An attempt of a state that agrees with a moment of the run on an input goes along with that run, where no verdict denies the
 -- input.

@@ -1,9 +1,7 @@
 -- What is taken of a program, of an input and of a state where no call is skipped.
-use Rattle.std.specs.Prelude.{◌≡◌, ℕ, ◌<◌, ◌==◌, ◌&&◌, Bool, false, List, [], ◌∷◌, length, map, All, Option, Some, None, slice_get}
+use Rattle.std.specs.Prelude.{◌≡◌, ℕ, ◌<◌, ◌==◌, ◌&&◌, Bool, List, [], ◌∷◌, length, map, All, Option, Some, None, slice_get}
 use Rattle.std.specs.List.{AllByRecursion as Each, IsDistinct}
 use Rattle.bitnum.specs.Number.{Number}
-use Rattle.terms.specs.Tree.{Tree}
-use Rattle.terms.specs.Value.{are_met_by}
 use Rattle.checks.specs.Errors.{IsChecked}
 use Rattle.flow.specs.Flow.{Leads, IsSet}
 use Rattle.typed_runs.specs.FittingRuns.{NumbersFit}
@@ -20,10 +18,8 @@ use Rattle.log_laws.specs.Standing.{Gave}
 use Rattle.sym_bytes.specs.Value.{SymValue}
 use Rattle.state_laws.specs.Kept.{IsFitting, ProgramFits, StateFitsAt}
 use Rattle.state_laws.specs.Skipless.{HasNoCalls}
-use Rattle.leaves.specs.Fitting.{AreTermsOf}
 use Rattle.sym_states.specs.declared.frames.Place.TheVariants.{At}
 use Rattle.sym_states.specs.States.{Frame, State, Context, node_of, code_of}
-use Rattle.sym_states.specs.Verdicts.{Unsat}
 
 -- a program that passed its checks, of which no call is skipped, outside of a recovery
 pub record IsPlain (c : Context) : Type 0 where
@@ -47,12 +43,6 @@ NodeHasDistinctCases _ = Unit {0}
 
 abbrev pub HasDistinctCases : ProgramData → Type 0
 HasDistinctCases p = All (λ f. All NodeHasDistinctCases f.nodes) p.funcs
-
--- ---- verdicts
-
--- no verdict says of a condition that the input meets that no input does
-abbrev pub IsNeverDenied : Context → List ℕ → Type 0
-IsNeverDenied c input = (condition : List Tree) → AreTermsOf (length input) 1 condition → c.verdict condition (length input) ≡ Unsat → are_met_by input condition ≡ false
 
 -- ---- states
 

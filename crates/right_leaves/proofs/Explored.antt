@@ -15,7 +15,8 @@ use Rattle.sym_states.specs.States.{State, Context, Child, Go, Stop, Step, Goes,
 use Rattle.sym_states.specs.Verdicts.{Unsat}
 use Rattle.state_laws.proofs.Programs.{code_of-fits}
 use Rattle.agreement.specs.Agreement.{GoesAlong, LeafHolds, ChildGoesAlong, StepGoesAlong}
-use Rattle.agreement.specs.Premises.{IsPlainState, IsNeverDenied, none_gave}
+use Rattle.agreement.specs.Premises.{IsPlainState, none_gave}
+use Rattle.sym_states.specs.Splitting.{IsNeverDenied}
 use Rattle.agreement.proofs.Whole.{attempts-along}
 use Rattle.agreement.proofs.Numbers.{code-distinct}
 use Rattle.agreement.proofs.Plain.{ChildIsPlain, StepIsPlain, attempt-plain}

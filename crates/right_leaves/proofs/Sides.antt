@@ -15,9 +15,8 @@ use Rattle.sym_states.specs.Sides.{Offspring, Lives, Spends, by_verdict, offspri
 use Rattle.sym_states.specs.Splitting.{is_met, met_count}
 use Rattle.sym_states.specs.States.{State, Context, Child, Go, Stop, Step, Goes, Forks, Needs, Ends, Flow, On, Over, opens}
 use Rattle.sym_states.specs.Verdicts.{Verdict, Sat, Unsat, Spent}
-use Rattle.sym_states.proofs.Widths.{negation-fits}
+use Rattle.sym_states.proofs.Widths.{negation-fits, terms-append}
 use Rattle.state_laws.specs.Kept.{StateFitsAt}
-use Rattle.state_laws.proofs.Terms.{terms-append}
 use Rattle.state_laws.proofs.States.{parts_of}
 use Rattle.agreement.proofs.Values.{both-true}
 use Rattle.right_leaves.specs.Right.{IsLeast, KeepsLeast, AreRightVerdicts}

@@ -24,7 +24,7 @@ use Rattle.sym_states.specs.States.{Snapshot, State, Context, Stop, Forks, Neede
 use Rattle.sym_states.specs.Verdicts.{Verdict, Sat, Unsat, Spent}
 use Rattle.state_laws.specs.Kept.{IsFitting, IsShortIf, IsShortSnapshot, AreShortSnapshots, StateFitsAt, LeafFitsAt, ChildFits, ChildrenFit, StepFits}
 use Rattle.state_laws.specs.Explored.{LeavesFitAt}
-use Rattle.state_laws.proofs.Terms.{terms-append}
+use Rattle.sym_states.proofs.Widths.{terms-append}
 use Rattle.state_laws.proofs.Roots.{log-if}
 use Rattle.state_laws.proofs.States.{parts_of, whole_of, told_with-fits, opens-fits}
 

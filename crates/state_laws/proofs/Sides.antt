@@ -11,9 +11,8 @@ use Rattle.leaves.specs.Fitting.{IsTermOf, AreTermsOf}
 use Rattle.sym_states.specs.Sides.{Offspring, Lives, Spends, by_verdict, candidate, offspring_of, offsprings, held_side, Offer, Alone, Several, alone, offer, share_of, child_of, children_of, forks, stays, Good, Bad, tested, test, taken, choose_way}
 use Rattle.sym_states.specs.States.{State, Context, Forks, opens}
 use Rattle.sym_states.specs.Verdicts.{Verdict, Sat, Unsat, Spent}
-use Rattle.sym_states.proofs.Widths.{negation-fits}
+use Rattle.sym_states.proofs.Widths.{negation-fits, terms-append}
 use Rattle.state_laws.specs.Kept.{IsFitting, StateFitsAt, ChildFits, ChildrenFit, StepFits, OffspringFits, OffspringsFit, OfferFits, TestedFits}
-use Rattle.state_laws.proofs.Terms.{terms-append}
 use Rattle.state_laws.proofs.States.{parts_of, conditioned-fits, opens-fits, spent-fits}
 
 -- ---- what a side gives

@@ -1,5 +1,5 @@
 -- The terms that nodes make of terms over the first n bytes of input are such terms.
-use Rattle.std.proofs.Common.{◌≡◌, ℕ, suc, Bool, true, false, ◌&&◌, ◌==◌, ◌-◌, ◌^◌, ◌<◌, ◌≤◌, List, [], ◌∷◌, ◌++◌, refl, sym, ◌∙◌, subst, arith, lit≤}
+use Rattle.std.proofs.Common.{◌≡◌, ℕ, suc, Bool, true, false, ◌&&◌, ◌==◌, ◌-◌, ◌^◌, ◌<◌, ◌≤◌, List, [], ◌∷◌, refl, sym, ◌∙◌, subst, arith, lit≤}
 use Rattle.std.specs.Prelude.{cond, nat_lt, nat_le}
 use Rattle.std.proofs.lemmas.Bool.{eqb-true, eqb-false, leb-true, leb-false}
 use Rattle.std.proofs.Math.Pow.{ones_lt, pow-lt}
@@ -27,7 +27,7 @@ use Rattle.sym_bytes.specs.Pointers.{Pointer}
 use Rattle.leaves.specs.Fitting.{IsTerm, IsTermOf, AreTermsOf}
 use Rattle.sym_states.specs.Terms.{calculated, is_equal, compared, compared_terms, alike_pointers, compared_pointers, cast_to, chosen, low_byte, truth_of, size_in, in_64_bits, moved_by_index, input_at, is_nonzero, is_least, is_ones, has_quotient, is_small, is_within, is_start, branch_sides, case_sides, and_none, none_of, switch_sides}
 use Rattle.sym_states.proofs.Widths as widths
-use Rattle.sym_states.proofs.Widths.{equal-fits, below-fits, negation-fits, wide-fits, byte-fits, behind-fits}
+use Rattle.sym_states.proofs.Widths.{equal-fits, below-fits, negation-fits, wide-fits, byte-fits, behind-fits, terms-append}
 use Rattle.state_laws.specs.Kept.{CasesFit}
 
 pub tree-width : (t : Tree) → IsTree t → IsWidth (width_of t)
@@ -196,10 +196,6 @@ pub is_start-fits : (n : ℕ) (offset : Tree) → IsTermOf n 64 offset → IsTer
 is_start-fits n offset h = equal-fits n 64 offset (wide 0) h (zero-fits n)
 
 -- ---- sides
-
-pub terms-append : (n w : ℕ) (ts us : List Tree) → AreTermsOf n w ts → AreTermsOf n w us → AreTermsOf n w (ts ++ us)
-terms-append n w [] us h k = k
-terms-append n w (t ∷ ts) us h k = (h.0, terms-append n w ts us h.1 k)
 
 pub branch_sides-fits : (n : ℕ) (t : Tree) → IsTerm n t → AreTermsOf n 1 (branch_sides t)
 branch_sides-fits n t h = (truth_of-fits n t h, (negation-fits n (truth_of t) (truth_of-fits n t h), tt))

@@ -11,7 +11,7 @@ use Rattle.term_store.specs.declared.conditions.Added.TheVariants.{Appended}
 use Rattle.terms.specs.Tree.{Tree}
 use Rattle.terms.specs.Value.{ReadsBelow}
 use Rattle.leaves.specs.Fitting.{IsTermOf, AreTermsOf}
-use Rattle.sym_states.proofs.Widths.{negation-fits}
+use Rattle.sym_states.proofs.Widths.{negation-fits, terms-append}
 use Rattle.sym_states.specs.Fitting.{HaveOneBit}
 use Rattle.leaves.specs.Fitting.{ToldFitsIn}
 use Rattle.leaves.specs.declared.options.Cause.TheVariants.{Shares}
@@ -36,17 +36,13 @@ reads n (t ∷ c) h = (h.0.term.reads, reads n c h.1)
 pub reads-all : (n : ℕ) (c : List Tree) → AreTermsOf n 1 c → All (ReadsBelow n) c
 reads-all n c h = All-from_recursion (ReadsBelow n) c (reads n c h)
 
-terms-append : (n : ℕ) (c : List Tree) (t : Tree) → AreTermsOf n 1 c → IsTermOf n 1 t → AreTermsOf n 1 (c ++ t ∷ [])
-terms-append n [] t h k = (k, tt)
-terms-append n (u ∷ c) t h k = (h.0, terms-append n c t h.1 k)
-
 pub have-one-bit : (n : ℕ) (c : List Tree) → AreTermsOf n 1 c → HaveOneBit c
 have-one-bit n [] h = tt
 have-one-bit n (t ∷ c) h = (h.0.has_width, have-one-bit n c h.1)
 
 -- the condition to which a conjunct was added
 pub truths-after : (n : ℕ) (a : Added) (base old new : List Tree) (t : Tree) → new ≡ after a old t → a ≡ Appended → old ≡ base → AreTermsOf n 1 base → IsTermOf n 1 t → AreTermsOf n 1 new
-truths-after n a base old new t is added same h truth = subst (AreTermsOf n 1) (sym (is ∙ (λ j. after (added j) (same j) t))) (terms-append n base t h truth)
+truths-after n a base old new t is added same h truth = subst (AreTermsOf n 1) (sym (is ∙ (λ j. after (added j) (same j) t))) (terms-append n 1 base (t ∷ []) h (truth, tt))
 
 -- the two sides of a test
 pub sides-are : (n : ℕ) (t : Tree) (slice items : List Tree) → slice ≡ items → items ≡ t ∷ negation t ∷ [] → IsTermOf n 1 t → AreTermsOf n 1 slice

@@ -1,5 +1,5 @@
 -- Terms over the first n bytes of input, of a width.
-use Rattle.std.proofs.Common.{ℕ, ◌<◌, ◌^◌, refl, sym, ◌∙◌, lit≤}
+use Rattle.std.proofs.Common.{ℕ, List, [], ◌∷◌, ◌++◌, ◌<◌, ◌^◌, refl, sym, ◌∙◌, lit≤}
 use Rattle.bitnum.specs.declared.BinOp.{BinOp}
 use Rattle.bitnum.specs.declared.BinOp.TheVariants as op
 use Rattle.terms.specs.declared.term.Unary.TheVariants.{Not}
@@ -10,7 +10,7 @@ use Rattle.terms.proofs.Folds.{width-folded_one, width-folded_two, width-folded_
 use Rattle.terms.proofs.Kept.{tree-folded_one, tree-folded_two, tree-folded_choice, reads-folded_one, reads-folded_two, reads-folded_choice}
 use Rattle.term_store.specs.Condition.{negation}
 use Rattle.sym_bytes.specs.Building.{number, wide, equal, behind}
-use Rattle.leaves.specs.Fitting.{IsTermOf}
+use Rattle.leaves.specs.Fitting.{IsTermOf, AreTermsOf}
 
 pub calculated-fits : (n w : ℕ) (o : BinOp) (a b : Tree) → IsTermOf n w a → IsTermOf n w b → IsTermOf n w (folded_two (Bin o) a b)
 calculated-fits n w o a b h k =
@@ -58,3 +58,7 @@ byte-fits n k h = record { term = record { tree = record { width_is = record { l
 
 pub behind-fits : (n : ℕ) (offset : Tree) (j : ℕ) → IsTermOf n 64 offset → j < 2 ^ 64 → IsTermOf n 64 (behind offset j)
 behind-fits n offset j h below = calculated-fits n 64 op.Add offset (wide j) h (wide-fits n j below)
+
+pub terms-append : (n w : ℕ) (ts us : List Tree) → AreTermsOf n w ts → AreTermsOf n w us → AreTermsOf n w (ts ++ us)
+terms-append n w [] us h k = k
+terms-append n w (t ∷ ts) us h k = (h.0, terms-append n w ts us h.1 k)
