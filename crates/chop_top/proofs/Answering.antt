@@ -1,36 +1,35 @@
 -- What follows from what a status says.
-use Rattle.std.proofs.Common.{◌≡◌, ℕ, ◌<◌, ◌≤◌, List, [], ◌∷◌, length, Option, Some, None, Result, Ok, Err, IfOk, IfSome, true, false, Vec, refl, sym, ◌∙◌, ap, subst, inl, inr, arith}
+use Rattle.std.proofs.Common.{◌≡◌, ℕ, ◌<◌, ◌≤◌, List, [], ◌∷◌, length, Option, Some, None, Result, Ok, Err, IfOk, IfSome, Vec, refl, sym, ◌∙◌, ap, subst, inl, inr, arith}
 use Rattle.std.specs.declared.alloc.Global.{Global}
 use Rattle.std.specs.declared.alloc.AllocError.{AllocError}
 use Rattle.flat_ir.specs.declared.program.ProgramData.{ProgramData}
 use Rattle.flat_ir.specs.declared.names.FuncId.{FuncId}
 use Rattle.slice_lines.specs.Targets.{function_named, location_named}
-use Rattle.explorer.proofs.Right.{decided-leaves-right}
+use Rattle.distinct_cases.proofs.Distinct.{cases-distinct}
 use Rattle.chop_words.specs.declared.options.Options.{Options}
-use Rattle.chop_words.specs.Words.{Wanted, Explored, Ran, Printed, Sited, Sliced, file_of, wanted, AreInRange}
+use Rattle.chop_words.specs.Words.{Wanted, Explored, Ran, Printed, Sited, Sliced, file_of, wanted}
 use Rattle.chop_outside.specs.Reading.{Named, Holds, contents_of}
 use Rattle.chop_outside.specs.Writing.{SinkState}
 use Rattle.chop_top.specs.declared.top.Answer.{Answer}
 use Rattle.chop_top.specs.declared.top.Status.{Status}
 use Rattle.chop_top.specs.declared.top.Status.TheVariants.{Done, Usage, Refused, Memory, ReadFault, WriteFault}
-use Rattle.explorer.specs.Built.{is_built}
 use Rattle.chop_top.specs.Accepted.{Reads}
-use Rattle.chop_top.specs.Refusals.{IsRefusalOf, IsBuiltFor, IsKnown, IsUnknown, no_function, no_location}
+use Rattle.chop_top.specs.Refusals.{IsRefusalOf, HasTarget, IsKnown, IsUnknown, no_function, no_location}
 use Rattle.chop_top.proofs.OneText.{one-program, not-unaccepted}
-use Rattle.chop_top.specs.Outcomes.{limit, limits_of, Reading, IsReport, IsTooLarge, OfFile, IsAccepted, IsComplete, Outcome, Judged, text_or_memory}
+use Rattle.report.specs.Reports.{IsReport}
+use Rattle.chop_top.specs.Outcomes.{limit, exploration, Reading, IsTooLarge, OfFile, IsAccepted, IsComplete, Outcome, Judged, text_or_memory}
 
 -- the report of the program that the bytes are the text of
-pub judged-report : (bytes file : List ℕ) (o : Options) (p : ProgramData) (written : Result (Vec ℕ Global) AllocError) (answer : Answer) → AreInRange o → Reads bytes p → is_built p ≡ true → IfOk written (λ w. IsReport p o w.items) → answer ≡ text_or_memory Done written → Judged answer (Explored o file) bytes
-judged-report bytes file o p (Ok w) answer range reads built report is = subst (λ a. Judged a (Explored o file) bytes) (sym is) (record {
+pub judged-report : (bytes file : List ℕ) (o : Options) (p : ProgramData) (written : Result (Vec ℕ Global) AllocError) (answer : Answer) → Reads bytes p → IfOk written (λ w. IsReport p (exploration o) w.items) → answer ≡ text_or_memory Done written → Judged answer (Explored o file) bytes
+judged-report bytes file o p (Ok w) answer reads told is = subst (λ a. Judged a (Explored o file) bytes) (sym is) (record {
   program = p;
   reads = reads;
-  built = built;
-  leaves = report.0;
-  explores = report.1;
-  right = decided-leaves-right p (limits_of o) report.0 range.input report.1;
-  report = report.2;
+  leaves = told.leaves;
+  explores = told.explores;
+  right = told.right (cases-distinct reads.0 p reads.1.resolves);
+  report = told.report;
 })
-judged-report bytes file o p (Err e) answer range reads built report is = subst (λ a. Judged a (Explored o file) bytes) (sym is) tt
+judged-report bytes file o p (Err e) answer reads told is = subst (λ a. Judged a (Explored o file) bytes) (sym is) tt
 
 -- a file holds what it is told to hold
 told-holds : (named : Option Named) (name read bytes : List ℕ) → Holds named name read → contents_of named name ≡ Some bytes → read ≡ bytes
@@ -50,18 +49,15 @@ not-unknown p function location word known (no_location f named none is) =
     let both : None ≡ Some known.at' = sym none ∙ (ap (λ (g : FuncId). location_named p g location) same ∙ known.place) in cc
 
 -- what is accepted, for what is wanted of it, isn't refused
-not-refused-of : (asked : Wanted) (bytes written : List ℕ) (p : ProgramData) → Reads bytes p → IsBuiltFor asked p → IsRefusalOf asked bytes written → ⊥
-not-refused-of (Explored o file) bytes written p reads built (inl unaccepted) = not-unaccepted bytes written p reads unaccepted
-not-refused-of (Explored o file) bytes written p reads built (inr unbuilt) =
-    let same = one-program bytes p unbuilt.program reads unbuilt.reads in
-    let both : true ≡ false = sym built ∙ (ap is_built same ∙ unbuilt.unbuilt) in cc
-not-refused-of (Ran input steps file) bytes written p reads built unaccepted = not-unaccepted bytes written p reads unaccepted
-not-refused-of (Printed file) bytes written p reads built unaccepted = not-unaccepted bytes written p reads unaccepted
-not-refused-of (Sited file) bytes written p reads built unaccepted = not-unaccepted bytes written p reads unaccepted
-not-refused-of (Sliced file function location) bytes written p reads built (inl unaccepted) = not-unaccepted bytes written p reads unaccepted
-not-refused-of (Sliced file function location) bytes written p reads built (inr target) =
+not-refused-of : (asked : Wanted) (bytes written : List ℕ) (p : ProgramData) → Reads bytes p → HasTarget asked p → IsRefusalOf asked bytes written → ⊥
+not-refused-of (Explored o file) bytes written p reads there unaccepted = not-unaccepted bytes written p reads unaccepted
+not-refused-of (Ran input steps file) bytes written p reads there unaccepted = not-unaccepted bytes written p reads unaccepted
+not-refused-of (Printed file) bytes written p reads there unaccepted = not-unaccepted bytes written p reads unaccepted
+not-refused-of (Sited file) bytes written p reads there unaccepted = not-unaccepted bytes written p reads unaccepted
+not-refused-of (Sliced file function location) bytes written p reads there (inl unaccepted) = not-unaccepted bytes written p reads unaccepted
+not-refused-of (Sliced file function location) bytes written p reads there (inr target) =
     let same = one-program bytes p target.program reads target.reads in
-    not-unknown target.program function location target.word (subst (λ (q : ProgramData). IsKnown q function location) same built) target.unknown
+    not-unknown target.program function location target.word (subst (λ (q : ProgramData). IsKnown q function location) same there) target.unknown
 
 -- an accepted file isn't refused
 not-refused : (r : Reading) (written : List ℕ) → IsAccepted r → OfFile (λ asked bytes. IsRefusalOf asked bytes written) r → ⊥
@@ -71,8 +67,8 @@ not-refused r written accepted refused =
     let told = subst P (sym same) accepted.told in
     let bytes = told-holds r.before.named (file_of refused.asked) refused.bytes accepted.bytes refused.read.told told in
     let Q : List ℕ → Type 0 = λ bs. Reads bs accepted.program in
-    let B : Wanted → Type 0 = λ e. IsBuiltFor e accepted.program in
-    not-refused-of refused.asked refused.bytes written accepted.program (subst Q (sym bytes) accepted.reads) (subst B (sym same) accepted.built) refused.holds
+    let B : Wanted → Type 0 = λ e. HasTarget e accepted.program in
+    not-refused-of refused.asked refused.bytes written accepted.program (subst Q (sym bytes) accepted.reads) (subst B (sym same) accepted.target) refused.holds
 
 over-limit : (contents : Option (List ℕ)) (bytes : List ℕ) → contents ≡ Some bytes → length bytes ≤ limit → IfSome contents (λ c. limit < length c) → ⊥
 over-limit None bytes told short over = cc

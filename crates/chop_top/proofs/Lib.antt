@@ -1,5 +1,4 @@
 pub mod OneText
 pub mod Stopping
 pub mod Answering
-pub mod Shown
 pub mod Slicing

@@ -1,5 +1,5 @@
 -- What each status of the top call says.
-use Rattle.std.specs.Prelude.{◌≡◌, ◌⊎◌, ℕ, ◌<◌, ◌≤◌, true, List, length, codes, Some, None, IfSome, string_bytes, String, Result, Ok, Err, Vec}
+use Rattle.std.specs.Prelude.{◌≡◌, ◌⊎◌, ℕ, ◌<◌, ◌≤◌, List, [], length, codes, Some, None, IfSome, string_bytes, String, Result, Ok, Err, Vec}
 use Rattle.std.specs.declared.alloc.Global.{Global}
 use Rattle.std.specs.declared.alloc.AllocError.{AllocError}
 use Rattle.flat_ir.specs.declared.program.ProgramData.{ProgramData}
@@ -7,15 +7,14 @@ use Rattle.chop_outside.specs.Reading.{FilesState, ReadWhole, contents_of}
 use Rattle.chop_outside.specs.Writing.{SinkState, Appends, WrotePrefix}
 use Rattle.chop_words.specs.declared.options.Options.{Options}
 use Rattle.chop_words.specs.Words.{Wanted, Explored, Ran, Printed, Sited, Sliced, file_of, wanted, usage_line}
-use Rattle.explorer.specs.declared.states.Limits.{Limits}
-use Rattle.explorer.specs.States.{Found}
-use Rattle.explorer.specs.Views.{setting_of, AreLeaves}
-use Rattle.explorer.specs.Built.{is_built}
-use Rattle.explorer.specs.Leaves.{AreRight}
+use Rattle.leaf_lines.specs.Report.{report_of}
+use Rattle.leaves.specs.declared.options.Options as leaves
+use Rattle.leaves.specs.Events.{Leaf}
+use Rattle.right_leaves.specs.Right.{AreRight}
+use Rattle.sym_machine.specs.Explored.{AreLeaves}
 use Rattle.ir_tree.specs.declared.module.IrTree.{IrTree}
 use Rattle.ir_tree.specs.Printing.{printed}
 use Rattle.refusal_lines.specs.Refusals.{refused}
-use Rattle.report.specs.Report.{text}
 use Rattle.run_lines.specs.Runs.{IsRunText}
 use Rattle.site_lines.specs.Sites.{IsSitesText}
 use Rattle.slice_lines.specs.Slices.{IsSliceText}
@@ -24,15 +23,15 @@ use Rattle.chop_top.specs.declared.top.Status.TheVariants.{Done, Usage, Refused,
 use Rattle.chop_top.specs.declared.top.Answer.{Answer}
 use Rattle.chop_top.specs.declared.top.Answer.TheVariants as answer
 use Rattle.chop_top.specs.Accepted.{IsTextOf, Reads}
-use Rattle.chop_top.specs.Refusals.{IsRefusalOf, IsBuiltFor, IsKnown}
+use Rattle.chop_top.specs.Refusals.{IsRefusalOf, HasTarget, IsKnown}
 
 -- the most bytes that are read
 abbrev pub limit : ℕ
 limit = 16777216
 
--- how far an exploration goes by its options
-abbrev pub limits_of : Options → Limits
-limits_of o = record { inputs = o.input; steps = o.steps; budget = o.leaves; shares = o.shares }
+-- how far an exploration goes by the options of the words, and what it tells; it has one worker
+abbrev pub exploration : Options → leaves.Options
+exploration o = record { input = o.input; steps = o.steps; leaves = o.leaves; shares = o.shares; workers = 1; trace = o.trace; conditions = o.conditions }
 
 -- one call of the top: its words, and the files before and after it
 pub record Reading : Type 0 where
@@ -40,17 +39,16 @@ pub record Reading : Type 0 where
   pub before : FilesState
   pub after : FilesState
 
--- A text is the report of the exploration of the program that the bytes are the text of, each node of which is explored. The leaves split
--- the inputs, each is right of the runs of the whole program on the inputs that it stands for, and an input that is kept is the least of
+-- A text is the report of the exploration of the program that the bytes are the text of, with no call skipped. The leaves split the
+-- inputs, each is right of the runs of the whole program on the inputs that it stands for, and an input that is kept is the least of
 -- these.
 pub record IsReportOf (options : Options) (bytes written : List ℕ) : Type 0 where
   pub program : ProgramData
   pub reads : Reads bytes program
-  pub built : is_built program ≡ true
-  pub leaves : List Found
-  pub explores : AreLeaves program (limits_of options) leaves
-  pub right : AreRight (setting_of program (limits_of options)) leaves
-  pub report : written ≡ text program options leaves
+  pub leaves : List Leaf
+  pub explores : AreLeaves program (exploration options) leaves
+  pub right : AreRight program options.input leaves
+  pub report : written ≡ report_of program (exploration options) [] leaves
 
 -- a text is the line of the run on an input of the program that the bytes are the text of, for no more than so many steps
 pub record IsRunOf (input : List ℕ) (steps : ℕ) (bytes written : List ℕ) : Type 0 where
@@ -166,7 +164,7 @@ Outcome Memory r old new = new ≡ old
 Outcome ReadFault r old new = IsReadFaultQuiet r old new
 Outcome WriteFault r old new = IsWriteFault r old new
 
--- a file of told bytes that are the text of a program, which the words name, and which can be handled as they want
+-- a file of told bytes that are the text of a program, which the words name, and in which they name what there is
 pub record IsAccepted (r : Reading) : Type 0 where
   pub asked : Wanted
   pub named : wanted r.words ≡ Some asked
@@ -175,16 +173,12 @@ pub record IsAccepted (r : Reading) : Type 0 where
   pub short : length bytes ≤ limit
   pub program : ProgramData
   pub reads : Reads bytes program
-  pub built : IsBuiltFor asked program
+  pub target : HasTarget asked program
 
 -- Where the file is accepted and no call failed, the status is Done, or memory ran out.
 abbrev pub IsComplete : Status → Reading → SinkState → SinkState → Type 0
 IsComplete status r old new =
     IsAccepted r → r.after.faults ≡ r.before.faults → new.faults ≡ old.faults → (status ≡ Done) ⊎ (status ≡ Memory)
-
--- a text is the report of a program
-abbrev pub IsReport : ProgramData → Options → List ℕ → Type 0
-IsReport p options written = (leaves : List Found) × AreLeaves p (limits_of options) leaves × (written ≡ text p options leaves)
 
 abbrev pub text_or_memory : Status → Result (Vec ℕ Global) AllocError → Answer
 text_or_memory status (Ok written) = answer.Text status written

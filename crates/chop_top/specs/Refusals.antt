@@ -1,6 +1,6 @@
 -- Why a file is refused, and the line that says it: the first of these that holds, in this order. Each says the byte, or the function and
 -- node, at which it shows.
-use Rattle.std.specs.Prelude.{◌≡◌, ◌⊎◌, ℕ, false, true, List, None, Some, codes, Result, Ok, Err, Vec}
+use Rattle.std.specs.Prelude.{◌≡◌, ◌⊎◌, ℕ, List, None, Some, Result, Ok, Err, Vec}
 use Rattle.std.specs.declared.alloc.Global.{Global}
 use Rattle.std.specs.declared.alloc.AllocError.{AllocError}
 use Rattle.flat_ir.specs.declared.check.CheckError.{CheckError}
@@ -15,8 +15,7 @@ use Rattle.ir_reader.specs.Reading.{IsReadAs}
 use Rattle.ir_programs.specs.Answers.{Resolved, answer}
 use Rattle.ir_resolve.specs.declared.error.ResolveError.{ResolveError}
 use Rattle.ir_resolve.specs.Resolving as resolving
-use Rattle.explorer.specs.Built.{is_built}
-use Rattle.refusal_lines.specs.Refusals.{refused, misread_line, unresolved_line, unchecked_line}
+use Rattle.refusal_lines.specs.Refusals.{misread_line, unresolved_line, unchecked_line}
 use Rattle.chop_words.specs.declared.options.Options.{Options}
 use Rattle.chop_words.specs.Words.{Wanted, Explored, Ran, Printed, Sited, Sliced}
 use Rattle.slice_lines.specs.Targets.{function_named, location_named, unknown_line}
@@ -60,13 +59,6 @@ pub data IsUnaccepted (bytes written : List ℕ) : Type 0 where
   unresolved : IsUnresolved bytes written → IsUnaccepted bytes written
   unchecked : IsUnchecked bytes written → IsUnaccepted bytes written
 
--- a node of the program isn't explored yet
-pub record IsNotBuilt (bytes written : List ℕ) : Type 0 where
-  pub program : ProgramData
-  pub reads : Reads bytes program
-  pub unbuilt : is_built program ≡ false
-  pub line : written ≡ refused (codes "NotBuilt")
-
 -- a word names no function that the text defines; or, where the other does, no location at the end of that function's calls
 pub data IsUnknown (p : ProgramData) (function location word : List ℕ) : Type 0 where
   no_function : function_named p function ≡ None → word ≡ function → IsUnknown p function location word
@@ -88,19 +80,19 @@ pub record IsKnown (p : ProgramData) (function location : List ℕ) : Type 0 whe
 
 -- what is wanted can't be done with the bytes
 abbrev pub IsRefusalOf : Wanted → List ℕ → List ℕ → Type 0
-IsRefusalOf (Explored options file) bytes written = IsUnaccepted bytes written ⊎ IsNotBuilt bytes written
+IsRefusalOf (Explored options file) bytes written = IsUnaccepted bytes written
 IsRefusalOf (Ran input steps file) bytes written = IsUnaccepted bytes written
 IsRefusalOf (Printed file) bytes written = IsUnaccepted bytes written
 IsRefusalOf (Sited file) bytes written = IsUnaccepted bytes written
 IsRefusalOf (Sliced file function location) bytes written = IsUnaccepted bytes written ⊎ IsUnknownTarget function location bytes written
 
--- the program can be handled as is wanted
-abbrev pub IsBuiltFor : Wanted → ProgramData → Type 0
-IsBuiltFor (Explored options file) p = is_built p ≡ true
-IsBuiltFor (Ran input steps file) p = Unit {0}
-IsBuiltFor (Printed file) p = Unit {0}
-IsBuiltFor (Sited file) p = Unit {0}
-IsBuiltFor (Sliced file function location) p = IsKnown p function location
+-- what the words name in the program is there
+abbrev pub HasTarget : Wanted → ProgramData → Type 0
+HasTarget (Explored options file) p = Unit {0}
+HasTarget (Ran input steps file) p = Unit {0}
+HasTarget (Printed file) p = Unit {0}
+HasTarget (Sited file) p = Unit {0}
+HasTarget (Sliced file function location) p = IsKnown p function location
 
 -- a line to stop with, or that memory ran out
 abbrev pub stop_of : Result (Vec ℕ Global) AllocError → Stop

@@ -147,6 +147,11 @@ attributes #0 = { noinline nounwind optnone uwtable \"frame-pointer\"=\"all\" }
 !0 = !{i32 1, !\"wchar_size\", i32 4}
 ";
 
+const REPORT_OF_LOGGER: &str = "options input=0 steps=100000 leaves=10000 shares=1024
+1 complete input=- status=1 output=3221 steps=101
+total 1 complete 1 fault 0 skipped 0 open 0
+";
+
 const REPORT: &str = "options input=0 steps=100000 leaves=10000 shares=1024
 1 complete input=- status=0 output=- steps=1
 total 1 complete 1 fault 0 skipped 0 open 0
@@ -210,7 +215,7 @@ fn words_and_texts(rt: HostRuntime) -> Result<(), Fail> {
             Status::Refused,
             "refused Unsupported at=26 ptrtoint\n",
         ),
-        (all, LOGGER, Status::Refused, "refused NotBuilt\n"),
+        (all, LOGGER, Status::Done, REPORT_OF_LOGGER),
         (
             run,
             LOGGER,

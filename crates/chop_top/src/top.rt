@@ -1,27 +1,23 @@
 //! The top call.
 ghost use Rattle.std.specs.Prelude.{◌≡◌, ℕ, ◌<◌, ◌≤◌, ◌-◌, ◌^◌, None, Some, List, map, length, string_bytes, IfOk};
+ghost use Rattle.checks.specs.Errors.{IsChecked};
 ghost use Rattle.chop_words.specs.Words.{AreInRange, IsInRange, Explored, Ran, Printed, Sited, Sliced, wanted, wanted_by};
 ghost use Rattle.chop_top.specs.Accepted.{Reads};
-ghost use Rattle.chop_top.specs.Outcomes.{Reading, Outcome, IsComplete, Answered, Judged, Text, limit, IsReport, IsLine, text_or_memory};
+ghost use Rattle.chop_top.specs.Outcomes.{Reading, Outcome, IsComplete, Answered, Judged, Text, limit, exploration, IsLine, text_or_memory};
 
 use crate::accepting::{Stop, accepted};
 use chop_outside::{Fault, Files, Gate, ReadError, Sink, read_whole, write_whole};
 use chop_words::{Command, Options, UsageError, read_words, usage_line};
-use decider::Plain;
-use explorer::{Limits, explore, is_built};
 use flat_ir::Program;
 use ir_tree::printing::print;
-use places::{Home, Opened};
 use refusal_lines::refused_line;
-use report::report;
+use report::report_text;
 use run_lines::run_text;
 use site_lines::sites_text;
 use slice_lines::{function_named, location_named, slice_text, unknown_line};
 use std::alloc::{AllocError, Global};
-use std::marker::Brand;
 use std::sync::Wait;
 use std::thread::Threads;
-use terms::{Shape, Terms};
 
 /// How a call ends.
 #[derive(Clone, Copy, Debug, PartialEq, Eq)]
@@ -44,34 +40,19 @@ enum Answer {
     Memory,
 }
 
-// The report of a program, whose terms have their places in a table of their own.
-fn report_in<H: Home>(
-    opened: Opened<Shape>,
-    alloc: Global,
-    program: &Program,
-    options: Options,
-) -> Result<Vec<u8>, AllocError>
-    requires book { opened.seen.book ≡ H.book }
-    requires range { AreInRange options }
-    ensures { IfOk result (λ written. IsReport program.now options written.items) }
+// The limits of an exploration, and what it tells.
+fn exploration_of(options: Options) -> leaves::Options
+    ensures { result ≡ exploration options }
 {
-    let terms = Terms::<H>::new(alloc, opened.named::<H>());
-    let limits = Limits {
-        inputs: options.input,
+    leaves::Options {
+        input: options.input,
         steps: options.steps,
-        budget: options.leaves,
+        leaves: options.leaves,
         shares: options.shares,
-    };
-    let leaves = explore(program, &terms, &Plain, limits)?;
-    report(alloc, program, &options, leaves.as_slice())
-}
-
-// The report of a program.
-fn report_of(alloc: Global, program: &Program, options: Options) -> Result<Vec<u8>, AllocError>
-    requires { AreInRange options }
-    ensures { IfOk result (λ written. IsReport program.now options written.items) }
-{
-    report_in::<Brand>(Opened::new(), alloc, program, options)
+        workers: 1,
+        trace: options.trace,
+        conditions: options.conditions,
+    }
 }
 
 // A text to write, or nothing where memory ran out.
@@ -97,16 +78,14 @@ fn line_or_memory(status: Status, written: Result<String, AllocError>) -> Answer
     }
 }
 
-// The report of a program, or that a node of it isn't explored yet.
+// The report of a program.
 fn explored_program(alloc: Global, program: &Program, options: Options) -> Answer
-    requires { AreInRange options }
+    requires range { AreInRange options }
+    requires checked { IsChecked program.now.funcs }
     ensures { (bytes file : List ℕ) → Reads bytes program.now → Judged result (Explored options file) bytes }
 {
-    if is_built(program) {
-        text_or_memory(Status::Done, report_of(alloc, program, options))
-    } else {
-        text_or_memory(Status::Refused, refused_line(alloc, "NotBuilt"))
-    }
+    let exploration = exploration_of(options);
+    text_or_memory(Status::Done, report_text(alloc, program, exploration))
 }
 
 // The report of the program of a file's bytes, or the line that says why there is none.

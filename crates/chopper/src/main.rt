@@ -7,7 +7,7 @@ use chop_top::{Status, chop_main};
 use std::process::ExitCode;
 use std::{env, io};
 
-const HELP: &str = "chopper explore [--input N] [--steps S] [--leaves B] [--shares A] FILE
+const HELP: &str = "chopper explore [--input N] [--steps S] [--leaves B] [--shares A] [--trace] [--conditions] FILE
     explores the module in FILE over all inputs of N bytes, and prints a line for each
     state and one for their number; the options stand in any order
 
@@ -15,6 +15,9 @@ const HELP: &str = "chopper explore [--input N] [--steps S] [--leaves B] [--shar
     S  steps that a state may take, 1 to 1000000 (100000)
     B  conflicts that a decision may meet, 1 to 1000000 (10000)
     A  states that there may be, 1 to 100000 (1024)
+
+    --trace       adds below each state its branches and loads, in order
+    --conditions  adds below each state what its input bytes meet
 
 chopper run --hex H --steps S FILE
     runs the module on one input for at most S steps, and prints how the run ended,

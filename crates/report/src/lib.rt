@@ -1,7 +1,6 @@
-//! The text of a report.
+//! The report of a program: it is explored with no call skipped, and its leaves are told.
 #![tactic(auto)]
 
-mod lines;
-mod texts;
+mod reporting;
 
-pub use lines::report;
+pub use reporting::report_text;

@@ -25,6 +25,35 @@ use term_store::Conditions;
 use terms::Terms;
 use write_log::SymMemory;
 
+/// What an exploration took, for measurements.
+#[derive(Clone, Copy, Debug, PartialEq, Eq)]
+pub struct Counts {
+    /// Turns: each is an attempt, or takes a leaf that a fork told, and the last finds nothing left.
+    pub attempts: u64,
+    /// The most states that waited at once.
+    pub waiting: usize,
+}
+
+impl Counts {
+    /// Before anything was done.
+    pub fn new() -> Counts
+        ensures { result ≡ record { attempts = 0; waiting = 0 } }
+    {
+        Counts {
+            attempts: 0,
+            waiting: 0,
+        }
+    }
+
+    // One turn more, before which these waited.
+    fn add_turn<C>(&mut self, waiting: &[C]) {
+        self.attempts = self.attempts.saturating_add(1);
+        if waiting.len() > self.waiting {
+            self.waiting = waiting.len();
+        }
+    }
+}
+
 // What explores: the machine, and the limits.
 #[derive(Drop)]
 struct Exploration<'a, H: Home, D: Decide> {
@@ -141,7 +170,7 @@ impl<'a, H: Home, D: Decide> Exploration<'a, H, D> {
     }
 
     // The leaves, in the order of the tree.
-    fn leaves<K: SymMemory>(&self) -> Result<Vec<Leaf<H>>, AllocError>
+    fn leaves<K: SymMemory>(&self, counts: &mut Counts) -> Result<Vec<Leaf<H>>, AllocError>
         requires set_up { IsSetUp self.now.machine.scope self.now.options }
         requires globals { GlobalsFit self.now.machine.scope.program.now.globals }
         ensures leaves { IfOk result (λ leaves. AreLeaves self.now.machine.scope.program.now self.now.options leaves.items) }
@@ -153,6 +182,7 @@ impl<'a, H: Home, D: Decide> Exploration<'a, H, D> {
         let mut waiting: Vec<Child<H, K>> = Vec::new(alloc);
         wait(&mut waiting, self.first()?)?;
         'tasks: for _ in 0..u64::MAX {
+            counts.add_turn(waiting.as_slice());
             match next(&mut waiting) {
                 None => return Ok(leaves),
                 Some(child) => self.task(child, &mut waiting, &mut leaves)?,
@@ -180,6 +210,29 @@ pub fn explore<'a, H: Home, K: SymMemory, D: Decide>(
     ensures fits { IfOk result (λ leaves. LeavesFitAt options.input leaves.items) }
     ensures no_calls { IfOk result (λ leaves. LeavesHaveNoCalls leaves.items) }
 {
+    let mut counts = Counts::new();
+    explore_counted::<H, K, D>(program, terms, decide, options, &mut counts)
+}
+
+/// The leaves as `explore` gives them, and what it took to find them, added to the counts. No clause says what is counted.
+///
+/// # Errors
+///
+/// No memory, or a count past its bound.
+pub fn explore_counted<'a, H: Home, K: SymMemory, D: Decide>(
+    program: &'a Program,
+    terms: &'a Terms<H>,
+    decide: &'a D,
+    options: Options,
+    counts: &mut Counts,
+) -> Result<Vec<Leaf<H>>, AllocError>
+    requires inputs { options.input ≤ 64 }
+    requires budget { 1 ≤ options.leaves }
+    requires checked { IsChecked program.now.funcs }
+    ensures leaves { IfOk result (λ leaves. AreLeaves program.now options leaves.items) }
+    ensures fits { IfOk result (λ leaves. LeavesFitAt options.input leaves.items) }
+    ensures no_calls { IfOk result (λ leaves. LeavesHaveNoCalls leaves.items) }
+{
     program_fits(program);
     decisions_are_right();
     let unsliced = None;
@@ -196,5 +249,5 @@ pub fn explore<'a, H: Home, K: SymMemory, D: Decide>(
         decide,
     };
     let exploration = Exploration { machine, options };
-    exploration.leaves::<K>()
+    exploration.leaves::<K>(counts)
 }

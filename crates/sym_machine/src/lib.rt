@@ -11,5 +11,5 @@ mod making;
 mod remembering;
 
 pub use advancing::advance;
-pub use exploring::explore;
+pub use exploring::{Counts, explore, explore_counted};
 pub use fitting::program_fits;

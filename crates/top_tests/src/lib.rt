@@ -1,4 +1,4 @@
-//! Tests of the top call over every layer below it: each refusal, and the lines of sites, switches, runs and slices.
+//! Tests of the top call over every layer below it: each refusal, explorations, and the lines of sites, runs and slices.
 #![tactic(auto)]
 
 #[cfg(test)]

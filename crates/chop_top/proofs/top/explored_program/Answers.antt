@@ -1,7 +1,9 @@
-use Rattle.std.proofs.Common.{sym, ◌∙◌}
+use Rattle.std.proofs.Common.{IfOk, subst}
+use Rattle.report.specs.Reports.{IsReport}
 use Rattle.chop_top.proofs.Answering.{judged-report}
 use Rattle.chop_top.proofs.top.explored_program.Goals as goal
 
-pub returns-then-is_built : goal.returns-then-is_built
-returns-then-is_built c bytes file reads =
-    judged-report bytes file c.args.options c.args.program.now c.report_of.result c.text_or_memory.result c.requires reads (sym c.is_built.ensures ∙ c.if-is_built.true) c.report_of.ensures c.text_or_memory.ensures
+pub returns : goal.returns
+returns c bytes file reads =
+    judged-report bytes file c.args.options c.args.program.now c.report_text.result c.text_or_memory.result reads
+    (subst (λ e. IfOk c.report_text.result (λ w. IsReport c.args.program.now e w.items)) c.exploration_of-exploration.ensures c.report_text.ensures.report) c.text_or_memory.ensures

@@ -1,5 +1,0 @@
-use Rattle.explorer.proofs.Lists.{zeros-next}
-use Rattle.explorer.proofs.exploring.zeros.Goals as goal
-
-pub bytes-preserved : goal.bytes-preserved
-bytes-preserved c = zeros-next c.bytes.counter c.bytes.bytes c.push.new.self c.bytes.invariant c.in_ok-push.ensures.ok

@@ -1,7 +1,0 @@
-use Rattle.std.proofs.Common.{refl, arith}
-use Rattle.explorer.proofs.Kept.{alone-several}
-use Rattle.explorer.specs.Views.{state_seen}
-use Rattle.explorer.proofs.sides.alone.Goals as goal
-
-pub returns-then-len-ne1 : goal.returns-then-len-ne1
-returns-then-len-ne1 g c = (refl, alone-several c.args.offsprings.items (state_seen c.args.state) (λ e. omega arith))
