@@ -1,12 +1,13 @@
 -- The words of the program:
 --
---     explore [--input N] [--steps S] [--leaves B] [--shares A] FILE
+--     explore [--input N] [--steps S] [--leaves B] [--shares A] [--trace] [--conditions] FILE
 --     run --hex H --steps S FILE
 --     print FILE
 --     sites FILE
 --     slice FILE FUNCTION LOCATION
 --
--- The options of a command stand in any order between its name and its file, each at most once, each value in the word after its name.
+-- The options of a command stand in any order between its name and its file, each at most once. `--trace` and `--conditions` are flags: a
+-- flag stands alone, while each value stands in the word after its option's name.
 use Rattle.std.specs.Prelude.{ℕ, ◌+◌, ◌*◌, ◌-◌, ◌%◌, Bool, true, false, not, ◌&&◌, ◌||◌, ◌==◌, nat_le, List, [], ◌∷◌, ◌++◌, length, Option, None, Some, if◌then◌else◌, codes, slice_get, string_bytes, ◌≡◌, ◌≤◌}
 use Rattle.std.specs.Str.{bytes_eq}
 use Rattle.std.specs.List.{list_all}
@@ -18,8 +19,10 @@ use Rattle.chop_words.specs.declared.words.Verb.{Verb}
 use Rattle.chop_words.specs.declared.words.Verb.TheVariants as verb
 use Rattle.chop_words.specs.declared.words.Setting.{Setting}
 use Rattle.chop_words.specs.declared.words.Setting.TheVariants.{Input, Steps, Leaves, Shares}
+use Rattle.chop_words.specs.declared.words.Flag.{Flag}
+use Rattle.chop_words.specs.declared.words.Flag.TheVariants.{Trace, Conditions}
 use Rattle.chop_words.specs.declared.words.Choice.{Choice}
-use Rattle.chop_words.specs.declared.words.Choice.TheVariants.{Bytes, Number}
+use Rattle.chop_words.specs.declared.words.Choice.TheVariants.{Bytes, Number, Switch}
 use Rattle.chop_words.specs.declared.words.Given.{Given}
 use Rattle.chop_words.specs.declared.words.Stage.{Stage}
 use Rattle.chop_words.specs.declared.words.Stage.TheVariants.{Start, Open, Value, Function, Location, End}
@@ -49,15 +52,19 @@ named word =
     else (if bytes_eq word (codes "--leaves") then Some (Number Leaves)
     else (if bytes_eq word (codes "--shares") then Some (Number Shares)
     else (if bytes_eq word (codes "--hex") then Some Bytes
-    else None))))
+    else (if bytes_eq word (codes "--trace") then Some (Switch Trace)
+    else (if bytes_eq word (codes "--conditions") then Some (Switch Conditions)
+    else None))))))
 
 -- the options that a command may have
 abbrev pub takes : Verb → Choice → Bool
 takes verb.Explore (Number c) = true
 takes verb.Explore Bytes = false
+takes verb.Explore (Switch f) = true
 takes verb.Run Bytes = true
 takes verb.Run (Number Steps) = true
 takes verb.Run (Number c) = false
+takes verb.Run (Switch f) = false
 takes verb.Print c = false
 takes verb.Sites c = false
 takes verb.Slice c = false
@@ -77,13 +84,17 @@ high Shares = 100000
 
 -- where none is named
 abbrev pub plain : Options
-plain = record { input = 4; steps = 100000; leaves = 10000; shares = 1024 }
+plain = record { input = 4; steps = 100000; leaves = 10000; shares = 1024; trace = false; conditions = false }
 
 abbrev pub with_number : Setting → ℕ → Options → Options
 with_number Input n o = record o { input = n }
 with_number Steps n o = record o { steps = n }
 with_number Leaves n o = record o { leaves = n }
 with_number Shares n o = record o { shares = n }
+
+abbrev pub with_flag : Flag → Options → Options
+with_flag Trace o = record o { trace = true }
+with_flag Conditions o = record o { conditions = true }
 
 -- each number within its range
 pub record AreInRange (o : Options) : Type 0 where
@@ -100,6 +111,8 @@ is_given (Number Steps) g = g.steps
 is_given (Number Leaves) g = g.leaves
 is_given (Number Shares) g = g.shares
 is_given Bytes g = g.bytes
+is_given (Switch Trace) g = g.trace
+is_given (Switch Conditions) g = g.conditions
 
 abbrev pub with_given : Choice → Given → Given
 with_given (Number Input) g = record g { input = true }
@@ -107,9 +120,11 @@ with_given (Number Steps) g = record g { steps = true }
 with_given (Number Leaves) g = record g { leaves = true }
 with_given (Number Shares) g = record g { shares = true }
 with_given Bytes g = record g { bytes = true }
+with_given (Switch Trace) g = record g { trace = true }
+with_given (Switch Conditions) g = record g { conditions = true }
 
 abbrev pub none_given : Given
-none_given = record { input = false; steps = false; leaves = false; shares = false; bytes = false }
+none_given = record { input = false; steps = false; leaves = false; shares = false; bytes = false; trace = false; conditions = false }
 
 -- no option is missing that the command needs
 abbrev pub has_needed : Verb → Given → Bool
@@ -175,18 +190,26 @@ abbrev pub behind_file : Verb → Stage
 behind_file verb.Slice = Function
 behind_file v = End v
 
+-- what was heard with an option's name more: a flag is set at once, and another option waits for its value
+abbrev pub taken : Verb → Choice → Heard → Heard
+taken v (Number c) s = record s { stage = Value v (Number c) }
+taken v Bytes s = record s { stage = Value v Bytes }
+taken v (Switch f) s = record { stage = Open v; given = with_given (Switch f) s.given; options = with_flag f s.options }
+
 -- an option of the command that wasn't named before, or the file, once no option is missing
 abbrev pub chosen : Verb → Heard → Option Choice → Bool → Option Heard
-chosen v s (Some c) positional = if takes v c && not (is_given c s.given) then Some (record s { stage = Value v c }) else None
+chosen v s (Some c) positional = if takes v c && not (is_given c s.given) then Some (taken v c s) else None
 chosen v s None positional = if positional && has_needed v s.given then Some (record s { stage = behind_file v }) else None
 
 abbrev pub numbered : Verb → Setting → Heard → Option ℕ → Option Heard
 numbered v c s (Some n) = Some (record { stage = Open v; given = with_given (Number c) s.given; options = with_number c n s.options })
 numbered v c s None = None
 
+-- with the value of an option; a flag has none
 abbrev pub set : Verb → Choice → Heard → List ℕ → Option Heard
 set v (Number c) s word = numbered v c s (number_in c word)
 set v Bytes s word = if is_hex word then Some (record s { stage = Open v; given = with_given Bytes s.given }) else None
+set v (Switch f) s word = None
 
 abbrev pub placed : Heard → Stage → Bool → Option Heard
 placed s stage positional = if positional then Some (record s { stage = stage }) else None

@@ -203,11 +203,12 @@ fn command_in(words: &[String]) -> Result<Option<Command>, AllocError>
     }
 }
 
-/// The command of words: `explore [--input N] [--steps S] [--leaves B] [--shares A] FILE`, `run --hex H --steps S FILE`, `print FILE`,
-/// `sites FILE` or `slice FILE FUNCTION LOCATION`. Options stand in any order, each at most once; those of `run` are needed. N is at most 64,
-/// S and B are 1 to 1,000,000, A is 1 to 100,000; where they aren't named they are 4, 100,000, 10,000 and 1,024. A number has no sign and no 0
-/// in front. H is a dash, or two lower-case hexadecimal digits for each of 1 to 64 bytes. Each other word isn't empty and doesn't begin with
-/// a dash.
+/// The command of words: `explore [--input N] [--steps S] [--leaves B] [--shares A] [--trace] [--conditions] FILE`,
+/// `run --hex H --steps S FILE`, `print FILE`, `sites FILE` or `slice FILE FUNCTION LOCATION`. Options stand in any order, each at most once;
+/// those of `run` are needed. `--trace` and `--conditions` are flags and stand alone, while each value stands in the word after its option's
+/// name. N is at most 64, S and B are 1 to 1,000,000, A is 1 to 100,000; where they aren't named they are 4, 100,000, 10,000 and 1,024. A
+/// number has no sign and no 0 in front. H is a dash, or two lower-case hexadecimal digits for each of 1 to 64 bytes. Each other word isn't
+/// empty and doesn't begin with a dash.
 ///
 /// # Errors
 /// `Usage` exactly where the words aren't in this table; and `Memory`.

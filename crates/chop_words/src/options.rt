@@ -1,6 +1,6 @@
 //! The options of an exploration.
 
-/// How far an exploration goes.
+/// How far an exploration goes, and what its leaves show.
 #[derive(Clone, Copy, Debug, PartialEq, Eq)]
 pub struct Options {
     /// Bytes of input.
@@ -11,4 +11,8 @@ pub struct Options {
     pub leaves: u64,
     /// Shares, which forks divide among their children.
     pub shares: u64,
+    /// Whether leaves show their events.
+    pub trace: bool,
+    /// Whether leaves show their conditions.
+    pub conditions: bool,
 }

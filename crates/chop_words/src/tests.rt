@@ -3,7 +3,12 @@ use crate::{Command, UsageError, read_words, usage_line};
 use std::alloc::{AllocError, Global};
 use std::test::Fail;
 
-// The numbers of the options and the file, or the usage line.
+// What is said of a flag behind the file.
+fn flag_word(is_set: bool, word: &str) -> &str {
+    if is_set { word } else { "" }
+}
+
+// The numbers of the options, the file and the flags, or the usage line.
 fn told(alloc: Global, words: &[&str]) -> Result<String, AllocError> {
     let mut given = Vec::new(alloc);
     for word in words {
@@ -15,7 +20,9 @@ fn told(alloc: Global, words: &[&str]) -> Result<String, AllocError> {
             let steps = options.steps;
             let leaves = options.leaves;
             let shares = options.shares;
-            format!(in alloc; "{input} {steps} {leaves} {shares} {file}")
+            let trace = flag_word(options.trace, " trace");
+            let conditions = flag_word(options.conditions, " conditions");
+            format!(in alloc; "{input} {steps} {leaves} {shares} {file}{trace}{conditions}")
         }
         Ok(Command::Print { file }) => format!(in alloc; "print {file}"),
         Ok(Command::Sites { file }) => format!(in alloc; "sites {file}"),
@@ -110,6 +117,92 @@ fn usages(rt: HostRuntime) -> Result<(), Fail> {
         ),
         (["explore", "F", "G"].as_slice(), "usage G\n"),
         (["explore", "", "F"].as_slice(), "usage \n"),
+    ] {
+        assert_eq!(rt; told(rt.alloc(), words)?.as_str(), text);
+    }
+    Ok(())
+}
+
+#[test]
+fn flags(rt: HostRuntime) -> Result<(), Fail> {
+    for (words, text) in [
+        (
+            ["explore", "--trace", "F"].as_slice(),
+            "4 100000 10000 1024 F trace",
+        ),
+        (
+            ["explore", "--conditions", "F"].as_slice(),
+            "4 100000 10000 1024 F conditions",
+        ),
+        (
+            ["explore", "--trace", "--conditions", "F"].as_slice(),
+            "4 100000 10000 1024 F trace conditions",
+        ),
+        (
+            ["explore", "--conditions", "--trace", "F"].as_slice(),
+            "4 100000 10000 1024 F trace conditions",
+        ),
+        (
+            [
+                "explore",
+                "--input",
+                "2",
+                "--conditions",
+                "--steps",
+                "9",
+                "--trace",
+                "--leaves",
+                "5",
+                "--shares",
+                "7",
+                "F",
+            ]
+            .as_slice(),
+            "2 9 5 7 F trace conditions",
+        ),
+        (
+            ["explore", "--trace", "--input", "0", "F"].as_slice(),
+            "0 100000 10000 1024 F trace",
+        ),
+        (
+            ["explore", "--trace", "--trace", "F"].as_slice(),
+            "usage --trace\n",
+        ),
+        (
+            [
+                "explore",
+                "--conditions",
+                "--steps",
+                "5",
+                "--conditions",
+                "F",
+            ]
+            .as_slice(),
+            "usage --conditions\n",
+        ),
+        (
+            ["run", "--hex", "00", "--trace", "--steps", "5", "F"].as_slice(),
+            "usage --trace\n",
+        ),
+        (
+            ["run", "--hex", "00", "--steps", "5", "--conditions", "F"].as_slice(),
+            "usage --conditions\n",
+        ),
+        (["print", "--trace", "F"].as_slice(), "usage --trace\n"),
+        (
+            ["print", "--conditions", "F"].as_slice(),
+            "usage --conditions\n",
+        ),
+        (
+            ["explore", "--trace=1", "F"].as_slice(),
+            "usage --trace=1\n",
+        ),
+        (["explore", "--conditions"].as_slice(), "usage end\n"),
+        (
+            ["explore", "--input", "--trace", "F"].as_slice(),
+            "usage --trace\n",
+        ),
+        (["explore", "F", "--trace"].as_slice(), "usage --trace\n"),
     ] {
         assert_eq!(rt; told(rt.alloc(), words)?.as_str(), text);
     }

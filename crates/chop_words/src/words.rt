@@ -27,11 +27,19 @@ pub enum Setting {
     Shares,
 }
 
-/// An option: one that has a number, or the one that has bytes.
+/// An option that stands alone.
+#[derive(Clone, Copy, Debug, PartialEq, Eq)]
+pub enum Flag {
+    Trace,
+    Conditions,
+}
+
+/// An option: one that has a number, the one that has bytes, or one that stands alone.
 #[derive(Clone, Copy, Debug, PartialEq, Eq)]
 pub enum Choice {
     Number(Setting),
     Bytes,
+    Switch(Flag),
 }
 
 /// Which options were named.
@@ -42,6 +50,8 @@ pub struct Given {
     pub leaves: bool,
     pub shares: bool,
     pub bytes: bool,
+    pub trace: bool,
+    pub conditions: bool,
 }
 
 /// What may stand next: the command, one of its options or its file, an option's value, a function, a location, or nothing.
@@ -71,12 +81,16 @@ const NOTHING: Heard = Heard {
         leaves: false,
         shares: false,
         bytes: false,
+        trace: false,
+        conditions: false,
     },
     options: Options {
         input: 4,
         steps: 100_000,
         leaves: 10_000,
         shares: 1_024,
+        trace: false,
+        conditions: false,
     },
 };
 
@@ -97,7 +111,7 @@ fn takes(verb: Verb, choice: Choice) -> bool
     ensures { result ≡ spec.takes verb choice }
 {
     match (verb, choice) {
-        (Verb::Explore, Choice::Number(_)) => true,
+        (Verb::Explore, Choice::Number(_) | Choice::Switch(_)) => true,
         (Verb::Run, Choice::Bytes | Choice::Number(Setting::Steps)) => true,
         (Verb::Explore | Verb::Run | Verb::Print | Verb::Sites | Verb::Slice, _) => false,
     }
@@ -112,6 +126,8 @@ fn is_given(choice: Choice, given: Given) -> bool
         Choice::Number(Setting::Leaves) => given.leaves,
         Choice::Number(Setting::Shares) => given.shares,
         Choice::Bytes => given.bytes,
+        Choice::Switch(Flag::Trace) => given.trace,
+        Choice::Switch(Flag::Conditions) => given.conditions,
     }
 }
 
@@ -137,6 +153,14 @@ fn with_given(choice: Choice, given: Given) -> Given
         },
         Choice::Bytes => Given {
             bytes: true,
+            ..given
+        },
+        Choice::Switch(Flag::Trace) => Given {
+            trace: true,
+            ..given
+        },
+        Choice::Switch(Flag::Conditions) => Given {
+            conditions: true,
             ..given
         },
     }
@@ -181,6 +205,8 @@ fn named(word: &str) -> Option<Choice>
         "--leaves" => Some(Choice::Number(Setting::Leaves)),
         "--shares" => Some(Choice::Number(Setting::Shares)),
         "--hex" => Some(Choice::Bytes),
+        "--trace" => Some(Choice::Switch(Flag::Trace)),
+        "--conditions" => Some(Choice::Switch(Flag::Conditions)),
         _ => None,
     }
 }
@@ -207,6 +233,23 @@ fn with_number(setting: Setting, number: u64, options: Options) -> Options
         },
         Setting::Shares => Options {
             shares: number,
+            ..options
+        },
+    }
+}
+
+fn with_flag(flag: Flag, options: Options) -> Options
+    requires { AreInRange options }
+    ensures value { result ≡ spec.with_flag flag options }
+    ensures range { AreInRange result }
+{
+    match flag {
+        Flag::Trace => Options {
+            trace: true,
+            ..options
+        },
+        Flag::Conditions => Options {
+            conditions: true,
             ..options
         },
     }
@@ -350,6 +393,22 @@ fn behind_file(verb: Verb) -> Stage
     }
 }
 
+// What was heard with an option's name more: an option that stands alone is set, and another one waits for its value.
+fn taken(verb: Verb, choice: Choice, heard: Heard) -> Heard
+    requires { AreInRange heard.options }
+    ensures value { result ≡ spec.taken verb choice heard }
+    ensures range { AreInRange result.options }
+{
+    match choice {
+        Choice::Switch(flag) => Heard {
+            stage: Stage::Open(verb),
+            given: with_given(choice, heard.given),
+            options: with_flag(flag, heard.options),
+        },
+        Choice::Number(_) | Choice::Bytes => at_stage(Stage::Value(verb, choice), heard),
+    }
+}
+
 fn chosen(verb: Verb, heard: Heard, named: Option<Choice>, positional: bool) -> Option<Heard>
     requires { AreInRange heard.options }
     ensures value { result ≡ spec.chosen verb heard named positional }
@@ -358,7 +417,7 @@ fn chosen(verb: Verb, heard: Heard, named: Option<Choice>, positional: bool) -> 
     match named {
         Some(choice) => {
             if takes(verb, choice) && !is_given(choice, heard.given) {
-                Some(at_stage(Stage::Value(verb, choice), heard))
+                Some(taken(verb, choice, heard))
             } else {
                 None
             }
@@ -410,6 +469,7 @@ fn set(verb: Verb, choice: Choice, heard: Heard, word: &str) -> Option<Heard>
     match choice {
         Choice::Number(setting) => numbered(verb, setting, heard, word),
         Choice::Bytes => with_bytes(verb, heard, word),
+        Choice::Switch(_) => None,
     }
 }
 

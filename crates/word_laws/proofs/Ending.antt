@@ -13,7 +13,7 @@ use Rattle.chop_words.specs.declared.words.Verb.{Verb}
 use Rattle.chop_words.specs.declared.words.Verb.TheVariants as verb
 use Rattle.chop_words.specs.declared.words.Setting.{Setting}
 use Rattle.chop_words.specs.declared.words.Setting.TheVariants.{Input, Steps, Leaves, Shares}
-use Rattle.chop_words.specs.declared.words.Choice.TheVariants.{Bytes, Number}
+use Rattle.chop_words.specs.declared.words.Choice.TheVariants.{Bytes, Number, Switch}
 use Rattle.chop_words.specs.declared.words.Stage.{Stage}
 use Rattle.chop_words.specs.declared.words.Stage.TheVariants.{Start, Open, Value, Function, Location, End}
 use Rattle.chop_words.specs.declared.words.Heard.{Heard}
@@ -165,20 +165,21 @@ at-start : (s : Heard) → s.stage ≡ Start → Ends s
 at-start s is = by-word (codes "print") s (record s { stage = Open verb.Print }) Start is refl (at-open verb.Print (record s { stage = Open verb.Print }) refl)
 
 -- whatever was heard, a command can be ended
-at-stage : (stage : Stage) (s : Heard) → s.stage ≡ stage → Ends s
-at-stage Start s is = at-start s is
-at-stage (Open v) s is = at-open v s is
-at-stage (Value v (Number c)) s is = at-number v c s is
-at-stage (Value v Bytes) s is = at-bytes v s is
-at-stage Function s is = at-function s is
-at-stage Location s is = at-location s is
-at-stage (End v) s is = ended v s is
+at-stage : (stage : Stage) (s : Heard) → s.stage ≡ stage → Ready stage s.given.bytes → Ends s
+at-stage Start s is ready = at-start s is
+at-stage (Open v) s is ready = at-open v s is
+at-stage (Value v (Number c)) s is ready = at-number v c s is
+at-stage (Value v Bytes) s is ready = at-bytes v s is
+at-stage (Value v (Switch f)) s is ready = absurd ready
+at-stage Function s is ready = at-function s is
+at-stage Location s is ready = at-location s is
+at-stage (End v) s is ready = ended v s is
 
 -- ---- words that were heard begin words of the table
 
 begins-of : (words : List (List ℕ)) (s : Heard) → heard (Some nothing_heard) words ≡ Some s → Begins words
 begins-of words s hears =
-    let ends = at-stage s.stage s refl in
+    let ends = at-stage s.stage s refl (heard-good words s hears).ready in
     let whole : heard (Some nothing_heard) (words ++ ends.more) ≡ Some ends.end =
     heard-append (Some nothing_heard) words ends.more ∙ (ap (λ (o : Option Heard). heard o ends.more) hears ∙ ends.hears) in
     let asked = ended-there ends.verb' (words ++ ends.more) ends.end ends.ended (heard-good (words ++ ends.more) ends.end whole) in

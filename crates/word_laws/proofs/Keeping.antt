@@ -8,13 +8,15 @@ use Rattle.chop_words.specs.declared.words.Verb.{Verb}
 use Rattle.chop_words.specs.declared.words.Verb.TheVariants as verb
 use Rattle.chop_words.specs.declared.words.Setting.{Setting}
 use Rattle.chop_words.specs.declared.words.Setting.TheVariants.{Input, Steps, Leaves, Shares}
+use Rattle.chop_words.specs.declared.words.Flag.{Flag}
+use Rattle.chop_words.specs.declared.words.Flag.TheVariants.{Trace, Conditions}
 use Rattle.chop_words.specs.declared.words.Choice.{Choice}
-use Rattle.chop_words.specs.declared.words.Choice.TheVariants.{Bytes, Number}
+use Rattle.chop_words.specs.declared.words.Choice.TheVariants.{Bytes, Number, Switch}
 use Rattle.chop_words.specs.declared.words.Stage.{Stage}
 use Rattle.chop_words.specs.declared.words.Stage.TheVariants.{Start, Open, Value, Function, Location, End}
 use Rattle.chop_words.specs.declared.words.Heard.{Heard}
 use Rattle.word_laws.proofs.Hearing.{heard-none}
-use Rattle.chop_words.specs.Words.{verb_named, named, is_positional, number_in, is_hex, is_given, with_given, with_number, takes, has_needed, behind_file, chosen, begun, numbered, placed, next, nothing_heard, heard, word_after}
+use Rattle.chop_words.specs.Words.{verb_named, named, is_positional, number_in, is_hex, is_given, with_given, with_number, takes, has_needed, behind_file, taken, chosen, begun, numbered, placed, next, nothing_heard, heard, word_after}
 
 abbrev pub name : List ℕ
 name = codes "--hex"
@@ -25,6 +27,7 @@ waits Start = false
 waits (Open v) = false
 waits (Value v (Number c)) = false
 waits (Value v Bytes) = true
+waits (Value v (Switch f)) = false
 waits Function = false
 waits Location = false
 waits (End v) = false
@@ -44,9 +47,10 @@ least Location = 3
 least (End verb.Slice) = 4
 least (End v) = 1
 
--- a run has its bytes in the end
+-- a run has its bytes in the end, and no flag waits for a value
 abbrev pub Ready : Stage → Bool → Type 0
 Ready (End verb.Run) given = given ≡ true
+Ready (Value v (Switch f)) given = ⊥
 Ready _ given = Unit {0}
 
 pub record Good (words : List (List ℕ)) (s : Heard) : Type 0 where
@@ -116,15 +120,21 @@ number-given Steps g s e = e
 number-given Leaves g s e = e
 number-given Shares g s e = e
 
+flag-given : (f : Flag) (g : Bool) → (s : Heard) → s.given.bytes ≡ g → (with_given (Switch f) s.given).bytes ≡ g
+flag-given Trace g s e = e
+flag-given Conditions g s e = e
+
 -- only `--hex` names the option with bytes
-only-hex : (a b c d e : Bool) →
-    (if a then Some (Number Input) else (if b then Some (Number Steps) else (if c then Some (Number Leaves) else (if d then Some (Number Shares) else (if e then Some Bytes else None))))) ≡ Some Bytes → e ≡ true
-only-hex true b c d e is = cc
-only-hex false true c d e is = cc
-only-hex false false true d e is = cc
-only-hex false false false true e is = cc
-only-hex false false false false true is = refl
-only-hex false false false false false is = cc
+only-hex : (a b c d e f g : Bool) →
+    (if a then Some (Number Input) else (if b then Some (Number Steps) else (if c then Some (Number Leaves) else (if d then Some (Number Shares) else (if e then Some Bytes else (if f then Some (Switch Trace) else (if g then Some (Switch Conditions) else None))))))) ≡ Some Bytes → e ≡ true
+only-hex true b c d e f g is = cc
+only-hex false true c d e f g is = cc
+only-hex false false true d e f g is = cc
+only-hex false false false true e f g is = cc
+only-hex false false false false true f g is = refl
+only-hex false false false false false true g is = cc
+only-hex false false false false false false true is = cc
+only-hex false false false false false false false is = cc
 
 not-given : (b : Bool) → not b ≡ true → b ≡ false
 not-given true e = cc
@@ -165,10 +175,18 @@ chooses words v s s' w (Some (Number c)) named' within fact e =
 chooses words v s s' w (Some Bytes) named' within fact e =
     let test = passed (takes v Bytes && not s.given.bytes) (record s { stage = Value v Bytes }) s' e in
     let free = not-given s.given.bytes (and_parts (takes v Bytes) (not s.given.bytes) test.0).1 in
-    let yes' = only-hex (bytes_eq w (codes "--input")) (bytes_eq w (codes "--steps")) (bytes_eq w (codes "--leaves")) (bytes_eq w (codes "--shares")) (bytes_eq w name) named' in
+    let yes' = only-hex (bytes_eq w (codes "--input")) (bytes_eq w (codes "--steps")) (bytes_eq w (codes "--leaves")) (bytes_eq w (codes "--shares")) (bytes_eq w name) (bytes_eq w (codes "--trace")) (bytes_eq w (codes "--conditions")) named' in
     subst (λ (h : Heard). Good (words ++ w ∷ []) h) test.1 (record {
       count = omega (arith, length-append words (w ∷ []));
       hex = names words w yes' (subst (λ (b : Bool). HexFact false b words) free fact);
+      ready = tt;
+    })
+chooses words v s s' w (Some (Switch f)) named' within fact e =
+    let test = passed (takes v (Switch f) && not (is_given (Switch f) s.given)) (taken v (Switch f) s) s' e in
+    subst (λ (h : Heard). Good (words ++ w ∷ []) h) test.1 (record {
+      count = omega (arith, length-append words (w ∷ []));
+      hex = subst (λ (b : Bool). HexFact false b (words ++ w ∷ [])) (sym (flag-given f s.given.bytes s refl))
+          (keeps s.given.bytes words w (other named w (Some (Switch f)) (λ no. cc) named') fact);
       ready = tt;
     })
 
@@ -205,6 +223,7 @@ goes-on (Value v Bytes) words s s' w within fact e =
       hex = has words w s.given.bytes test.0 fact;
       ready = tt;
     })
+goes-on (Value v (Switch f)) words s s' w within fact e = absurd (none-some s' e)
 goes-on Function words s s' w within fact e = places words s s' w Location refl (omega (arith, within)) tt fact e
 goes-on Location words s s' w within fact e = places words s s' w (End verb.Slice) refl (omega (arith, within)) tt fact e
 goes-on (End v) words s s' w within fact e = absurd (none-some s' e)
