@@ -7,7 +7,8 @@ use chop_top::{Status, chop_main};
 use std::process::ExitCode;
 use std::{env, io};
 
-const HELP: &str = "chopper explore [--input N] [--steps S] [--leaves B] [--shares A] [--trace] [--conditions] FILE
+const HELP: &str =
+    "chopper explore [--input N] [--steps S] [--leaves B] [--shares A] [--trace] [--conditions] FILE
     explores the module in FILE over all inputs of N bytes, and prints a line for each
     state and one for their number; the options stand in any order
 
