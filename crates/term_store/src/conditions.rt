@@ -23,9 +23,15 @@ pub enum Added {
 }
 
 /// A condition, seen as the list of its conjuncts, in the order in which they were added.
-#[derive(Drop)]
 pub struct Conditions<H: Home> {
     terms: IndexSet<Term<H>>,
+}
+
+// All that lets one go is in this one place, and each end of a scope is a call.
+impl<H: Home> Drop for Conditions<H> {
+    fn drop(self) {
+        let Conditions { terms: _ } = self;
+    }
 }
 
 impl<H: Home> Model for Conditions<H> {
