@@ -12,7 +12,7 @@ use std::marker::Model;
 use terms::{Term, Terms, not};
 
 /// What adding a conjunct did.
-#[derive(Clone, Copy, Debug, PartialEq, Eq)]
+#[derive(Clone, Copy, PartialEq, Eq)]
 pub enum Added {
     /// The condition has the conjunct already, or it is the constant 1.
     Held,
