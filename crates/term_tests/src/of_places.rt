@@ -1,6 +1,6 @@
 ghost use Rattle.std.specs.Prelude.{◌≡◌};
 
-use super::*;
+use places::{Home, Opened, Shown};
 use std::alloc::AllocError;
 use std::marker::Brand;
 use std::test::Fail;
