@@ -1,5 +1,5 @@
 use Rattle.std.proofs.Common.{refl}
-use Rattle.number_steps.proofs.picking.makes.Goals as goal
+use Rattle.number_steps.proofs.picking.made_in.Goals as goal
 
 pub same-size : goal.same-size
 same-size g c = refl
