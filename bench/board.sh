@@ -3,13 +3,13 @@
 # Memory stays with the program between rounds, so that the system's paging isn't measured in its place.
 set -euo pipefail
 export MALLOC_TRIM_THRESHOLD_=4000000000 MALLOC_TOP_PAD_=64000000 MALLOC_MMAP_THRESHOLD_=4000000000
-cd "$(dirname "$0")/../crates/bench_board"
+cd "$(dirname "$0")/../crates/bench_programs"
 rt run >/dev/null
-program=$PWD/out/bench_board
+program=$PWD/out/bench_programs
 first=
 while read -r shape count rounds; do
     started=$(date +%s%N)
-    posts=$("$program" "$shape" "$count" "$rounds")
+    posts=$("$program" board "$shape" "$count" "$rounds")
     ended=$(date +%s%N)
     each=$(awk -v t=$((ended - started)) -v n="$posts" 'BEGIN { print t / n }')
     [ -n "$first" ] || first=$each

@@ -6,9 +6,9 @@ set -euo pipefail
 limit=${1:-60}
 cd "$(dirname "$0")/.."
 examples=$PWD/examples
-cd crates/bench_machine
+cd crates/bench_programs
 rt run >/dev/null 2>&1 || { rt run >&2; exit 1; }
-program=$(find "$PWD/out" -maxdepth 1 -type f -name 'bench_machine*' -perm -u+x | head -n 1)
+program=$(find "$PWD/out" -maxdepth 1 -type f -name 'bench_programs*' -perm -u+x | head -n 1)
 if [ -z "$program" ]; then
     echo "no program was built in $PWD/out" >&2
     exit 1
@@ -38,10 +38,10 @@ define i32 @main() {
   ret i32 0
 }
 MODULE
-least=$(memory "$program" 0 1 "$work/start.ll") || least=0
+least=$(memory "$program" machine 0 1 "$work/start.ll") || least=0
 for name in bubble_sort tokenizer checksum; do
     for bytes in 1 2 3; do
-        if ! once=$(spent "$program" "$bytes" 1 "$examples/$name.ll"); then
+        if ! once=$(spent "$program" machine "$bytes" 1 "$examples/$name.ll"); then
             echo "$name, $bytes bytes: more than $limit s"
             continue
         fi
@@ -50,8 +50,8 @@ for name in bubble_sort tokenizer checksum; do
         attempts=${attempts%% *}
         waiting=${told##*waiting=}
         times=$((1000000000 / (once + 1) + 1))
-        often=$(spent "$program" "$bytes" "$((times + 1))" "$examples/$name.ll") || often=$((once * (times + 1)))
-        most=$(memory "$program" "$bytes" 1 "$examples/$name.ll") || most=0
+        often=$(spent "$program" machine "$bytes" "$((times + 1))" "$examples/$name.ll") || often=$((once * (times + 1)))
+        most=$(memory "$program" machine "$bytes" 1 "$examples/$name.ll") || most=0
         awk -v name="$name" -v bytes="$bytes" -v told="$told" -v attempts="$attempts" -v waiting="$waiting" -v took="$((often - once))" \
             -v times="$times" -v most="$most" -v least="$least" 'BEGIN {
             each = took / times; if (each < 1) each = 1

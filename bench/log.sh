@@ -2,14 +2,14 @@
 # Reading, writing and copying in a log of 10, 1,000 and 100,000 entries. A read looks at each entry, so that its time is to grow as
 # the length; a write costs the same whatever the length, and so does a copy.
 set -euo pipefail
-cd "$(dirname "$0")/../crates/bench_log"
+cd "$(dirname "$0")/../crates/bench_programs"
 rt run >/dev/null 2>&1 || { rt run >&2; exit 1; }
-program=$PWD/out/bench_log
+program=$PWD/out/bench_programs
 # Nanoseconds of one run.
 spent() {
     local started ended
     started=$(date +%s%N)
-    "$program" "$1" "$2" "$3" >/dev/null
+    "$program" log "$1" "$2" "$3" >/dev/null
     ended=$(date +%s%N)
     echo $((ended - started))
 }

@@ -1,15 +1,15 @@
 #!/usr/bin/env bash
 # Stores and loads of concrete memory, by the number of live objects: the time of one pair is to be flat within a factor of 3.
 set -euo pipefail
-cd "$(dirname "$0")/../crates/bench_memory"
+cd "$(dirname "$0")/../crates/bench_programs"
 rt run >/dev/null 2>&1 || { rt run >&2; exit 1; }
-program=$PWD/out/bench_memory
+program=$PWD/out/bench_programs
 times=${1:-1000000}
 # Microseconds of one run.
 spent() {
     local started ended
     started=$(date +%s%N)
-    "$program" "$1" "$2" >/dev/null
+    "$program" memory "$1" "$2" >/dev/null
     ended=$(date +%s%N)
     echo $(((ended - started) / 1000))
 }

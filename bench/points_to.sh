@@ -3,15 +3,15 @@
 # between pointers to them. Nearly each register comes to point to each site, so that the sets have nodes times sites elements: the
 # time of one element is to grow no faster than the length of a row that it is put into.
 set -euo pipefail
-cd "$(dirname "$0")/../crates/bench_points_to"
+cd "$(dirname "$0")/../crates/bench_programs"
 rt run >/dev/null
-program=$PWD/out/bench_points_to
+program=$PWD/out/bench_programs
 first=
 for sites in 10 100 1000; do
     choices=$((sites * 10 - sites))
     elements=$((sites * choices))
     started=$(date +%s%N)
-    memory=$({ /usr/bin/time -f %M "$program" "$sites" "$choices" >/dev/null; } 2>&1)
+    memory=$({ /usr/bin/time -f %M "$program" points_to "$sites" "$choices" >/dev/null; } 2>&1)
     ended=$(date +%s%N)
     each=$(awk -v t=$((ended - started)) -v n="$elements" 'BEGIN { print t / n }')
     [ -n "$first" ] || first=$each

@@ -3,9 +3,9 @@
 # checks types too. The text is one module's functions and globals over and over, of 1, 4 and 16 MiB; `print` gets texts of 1/4, 1 and 4 MiB.
 # Where `llvm-as` is installed its time for the same text stands beside it.
 set -euo pipefail
-cd "$(dirname "$0")/../crates/bench_reader"
+cd "$(dirname "$0")/../crates/bench_programs"
 rt run >/dev/null 2>&1 || { rt run >&2; exit 1; }
-program=$(find out -maxdepth 1 -type f -name 'bench_reader*' -perm -u+x | head -n 1)
+program=$(find out -maxdepth 1 -type f -name 'bench_programs*' -perm -u+x | head -n 1)
 if [ -z "$program" ]; then
     echo "no program was built in $PWD/out" >&2
     exit 1
@@ -67,10 +67,10 @@ spent() {
 for mebibytes in 1 4 16; do
     file=$work/$mebibytes.ll
     text $((mebibytes * 1048576)) >"$file"
-    [ "$("$program" read "$file")" = done ] || { echo "the text of $mebibytes MiB is not read" >&2; exit 1; }
-    keep=$(spent "$program" keep "$file")
-    lex=$(spent "$program" lex "$file")
-    read=$(spent "$program" read "$file")
+    [ "$("$program" reader read "$file")" = done ] || { echo "the text of $mebibytes MiB is not read" >&2; exit 1; }
+    keep=$(spent "$program" reader keep "$file")
+    lex=$(spent "$program" reader lex "$file")
+    read=$(spent "$program" reader read "$file")
     other=0
     # Older ones need to be told that pointers have no types of their own.
     for assembler in "llvm-as" "llvm-as -opaque-pointers"; do

@@ -3,14 +3,14 @@
 # again and again, each time behind a branch, so that the slice retains nearly each node. What each node meets first is found for each retained node
 # by walks back over the function, so that the time is to grow with the square of a function's nodes, and with the number of functions.
 set -euo pipefail
-cd "$(dirname "$0")/../crates/bench_slice"
+cd "$(dirname "$0")/../crates/bench_programs"
 rt run >/dev/null
-program=$PWD/out/bench_slice
+program=$PWD/out/bench_programs
 first=
 tell() {
     local nodes=$1 functions=$2 started ended memory each
     started=$(date +%s%N)
-    memory=$({ /usr/bin/time -f %M "$program" "$((nodes / 2))" "$functions" >/dev/null; } 2>&1)
+    memory=$({ /usr/bin/time -f %M "$program" slice "$((nodes / 2))" "$functions" >/dev/null; } 2>&1)
     ended=$(date +%s%N)
     each=$(awk -v t=$((ended - started)) -v n="$nodes" -v f="$functions" 'BEGIN { print t / (n * n * f) }')
     [ -n "$first" ] || first=$each

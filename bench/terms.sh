@@ -6,9 +6,9 @@
 #   walk   the value of a term by the walk that remembers          grows with the nodes
 # The terms are a byte added to itself, so a depth of n has n nodes and 2^n paths.
 set -euo pipefail
-cd "$(dirname "$0")/../crates/bench_terms"
+cd "$(dirname "$0")/../crates/bench_programs"
 rt run >/dev/null 2>&1 || { rt run >&2; exit 1; }
-program=$(find out -maxdepth 1 -type f -name 'bench_terms*' -perm -u+x | head -n 1)
+program=$(find out -maxdepth 1 -type f -name 'bench_programs*' -perm -u+x | head -n 1)
 if [ -z "$program" ]; then
     echo "no program was built in $PWD/out" >&2
     exit 1
@@ -17,7 +17,7 @@ fi
 spent() {
     local started ended memory
     started=$(date +%s%N)
-    memory=$({ /usr/bin/time -f %M "$program" "$1" "$2" "$3" >/dev/null; } 2>&1)
+    memory=$({ /usr/bin/time -f %M "$program" terms "$1" "$2" "$3" >/dev/null; } 2>&1)
     ended=$(date +%s%N)
     echo "$(((ended - started) / 1000)) $memory"
 }

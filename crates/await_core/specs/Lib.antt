@@ -9,5 +9,4 @@ pub mod Steps
 pub mod Standing
 pub mod Events
 pub mod Opening
-pub mod Trees
 pub mod Finishing

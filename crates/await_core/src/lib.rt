@@ -11,8 +11,4 @@ pub mod record;
 pub mod settle;
 pub mod shared;
 pub mod slots;
-#[cfg(test)]
-mod tests;
 pub mod tree;
-#[cfg(test)]
-mod trees;

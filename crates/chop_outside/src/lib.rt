@@ -13,6 +13,3 @@ pub use mem_reading::MemFiles;
 pub use mem_writing::MemSink;
 pub use outside::{Fault, Files, Gate, Sink};
 pub use whole::{ReadError, read_whole, write_whole};
-
-#[cfg(test)]
-mod tests;

@@ -6,6 +6,3 @@ mod top;
 
 pub use accepting::a_text_has_one_program;
 pub use top::{Status, chop_main};
-
-#[cfg(test)]
-mod tests;

@@ -7,6 +7,3 @@ mod words;
 
 pub use commands::{Command, UsageError, read_words, usage_line};
 pub use options::Options;
-
-#[cfg(test)]
-mod tests;

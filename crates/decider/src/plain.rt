@@ -14,7 +14,7 @@ use std::alloc::{AllocError, Global};
 use terms::Term;
 
 /// The decider that makes the clauses of each condition anew and searches them.
-#[derive(Clone, Copy, Debug)]
+#[derive(Clone, Copy)]
 pub struct Plain;
 
 impl Decide for Plain {

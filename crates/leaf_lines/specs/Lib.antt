@@ -1,4 +1,3 @@
 pub mod Terms
 pub mod Values
 pub mod Report
-pub mod Sample

@@ -5,7 +5,5 @@ mod lines;
 mod objects;
 mod shown;
 mod term_texts;
-#[cfg(test)]
-mod tests;
 
 pub use lines::report;

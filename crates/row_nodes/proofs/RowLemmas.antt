@@ -6,7 +6,7 @@ use Rattle.nodes.specs.Nodes.{bit_at, Grows}
 use Rattle.nodes.specs.Names.{bits_at, AreWithin}
 use Rattle.std.proofs.lemmas.List.{get_or_append_left, get_or_push}
 use Rattle.nodes.proofs.WalkLemmas.{bits_at-push}
-use Rattle.nodes.proofs.GrowthLemmas.{stays, all_stay, bits_at-more, bits_at-past, bits_at-cons, bits_at-none}
+use Rattle.nodes.proofs.GrowthLemmas.{stays, still_within, all_stay, bits_at-more, bits_at-past, bits_at-cons, bits_at-none}
 use Rattle.rows.specs.Rows.{fold_or, fold_mux, fills, each, inverted, added, below, alike, top_turned}
 use Rattle.row_nodes.specs.declared.pairs.Gate.{Gate}
 use Rattle.row_nodes.specs.declared.pairs.Gate.TheVariants.{And, Or, Xor, Choice}
@@ -67,6 +67,12 @@ folded_stays old new grows And h = refl
 folded_stays old new grows Or h = refl
 folded_stays old new grows Xor h = refl
 folded_stays old new grows (Choice test) h = ap fold_mux (stays old new grows test h)
+
+pub gate_within : (old new : List Node) → Grows old new → (gate : Gate) → IsWithin old gate → IsWithin new gate
+gate_within old new grows And h = h
+gate_within old new grows Or h = h
+gate_within old new grows Xor h = h
+gate_within old new grows (Choice test) h = still_within old new grows test h
 
 -- the highest bit
 

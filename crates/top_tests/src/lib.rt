@@ -1,6 +1,11 @@
-//! Tests of the top call over every layer below it: each refusal, explorations, and the lines of sites, runs and slices.
+//! Tests of the top call over every layer below it: words, each refusal, reports, the lines of sites, runs and slices, calls of the outside that
+//! fail, and the host's files.
 #![tactic(auto)]
 
+#[cfg(test)]
+mod modules;
+#[cfg(test)]
+mod outside;
 #[cfg(test)]
 mod refusals;
 #[cfg(test)]
@@ -11,3 +16,5 @@ mod running;
 mod runs;
 #[cfg(test)]
 mod slicing;
+#[cfg(test)]
+mod words;

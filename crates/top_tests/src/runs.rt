@@ -1,5 +1,6 @@
 //! Runs on one input: with a status, at a fault, and with all steps spent.
-use crate::running::answered;
+use crate::modules::LOGGER;
+use crate::running::{Row, all_end};
 use chop_top::Status;
 use std::test::Fail;
 
@@ -39,64 +40,55 @@ x:
 }
 ";
 
-#[test]
-fn runs(rt: HostRuntime) -> Result<(), Fail> {
-    for (hex, steps, text, line) in [
-        (
-            "00",
-            "100",
-            FAULT_AFTER_WRITE,
-            "fault divide-by-zero at=f:1 output=- steps=6\n",
-        ),
-        (
-            "00",
-            "6",
-            FAULT_AFTER_WRITE,
-            "fault divide-by-zero at=f:1 output=- steps=6\n",
-        ),
-        ("00", "5", FAULT_AFTER_WRITE, "spent output=- steps=5\n"),
-        (
-            "-",
-            "9",
-            LEAST_BY_MINUS_ONE,
-            "fault divide-overflow at=main:0 output=- steps=1\n",
-        ),
-        (
-            "-",
-            "2",
-            SHIFT_BY_WIDTH,
-            "complete status=0 output=- steps=2\n",
-        ),
-        ("-", "1", SHIFT_BY_WIDTH, "spent output=- steps=1\n"),
-    ] {
-        let words = ["run", "--hex", hex, "--steps", steps, "F"];
-        let got = answered(&rt, rt.alloc(), &words, text)?;
-        assert_eq!(rt; got.0, Status::Done, "at {text}");
-        assert_eq!(rt; got.1.as_slice(), line.as_bytes(), "at {text}");
-    }
-    let words = ["run", "--steps", "1000000", "--hex", "61ff", "F"];
-    let got = answered(&rt, rt.alloc(), &words, ECHO)?;
-    assert_eq!(rt; got.0, Status::Done);
-    assert!(rt;
-        got.1
-            .as_slice()
-            .starts_with(b"complete status=2 output=61ff steps=")
-    );
-    Ok(())
-}
+const RUNS: [Row; 9] = [
+    (
+        "run --hex 00 --steps 100 F",
+        FAULT_AFTER_WRITE,
+        "fault divide-by-zero at=f:1 output=- steps=6\n",
+    ),
+    (
+        "run --hex 00 --steps 6 F",
+        FAULT_AFTER_WRITE,
+        "fault divide-by-zero at=f:1 output=- steps=6\n",
+    ),
+    (
+        "run --hex 00 --steps 5 F",
+        FAULT_AFTER_WRITE,
+        "spent output=- steps=5\n",
+    ),
+    (
+        "run --hex - --steps 9 F",
+        LEAST_BY_MINUS_ONE,
+        "fault divide-overflow at=main:0 output=- steps=1\n",
+    ),
+    (
+        "run --hex - --steps 2 F",
+        SHIFT_BY_WIDTH,
+        "complete status=0 output=- steps=2\n",
+    ),
+    (
+        "run --hex - --steps 1 F",
+        SHIFT_BY_WIDTH,
+        "spent output=- steps=1\n",
+    ),
+    (
+        "run --steps 1000000 --hex 61ff F",
+        ECHO,
+        "complete status=2 output=61ff steps=27\n",
+    ),
+    (
+        "run --hex 000102030405060708090a0b0c0d0e0f101112131415161718191a1b1c1d1e1f202122232425262728292a2b2c2d2e2f303132333435363738393a3b3c3d3eff --steps 1000000 F",
+        ECHO,
+        "complete status=2 output=000102030405060708090a0b0c0d0e0f101112131415161718191a1b1c1d1e1f202122232425262728292a2b2c2d2e2f303132333435363738393a3b3c3d3eff steps=647\n",
+    ),
+    (
+        "run --hex - --steps 1000 F",
+        LOGGER,
+        "complete status=1 output=3221 steps=101\n",
+    ),
+];
 
 #[test]
-fn runs_without_their_words(rt: HostRuntime) -> Result<(), Fail> {
-    for (hex, steps, line) in [
-        ("0", "5", "usage 0\n"),
-        ("0G", "5", "usage 0G\n"),
-        ("00", "1000001", "usage 1000001\n"),
-        ("00", "00", "usage 00\n"),
-    ] {
-        let words = ["run", "--hex", hex, "--steps", steps, "F"];
-        let got = answered(&rt, rt.alloc(), &words, SHIFT_BY_WIDTH)?;
-        assert_eq!(rt; got.0, Status::Usage, "at {line}");
-        assert_eq!(rt; got.1.as_slice(), line.as_bytes(), "at {line}");
-    }
-    Ok(())
+fn runs(rt: HostRuntime) -> Result<(), Fail> {
+    all_end(&rt, rt.alloc(), Status::Done, &RUNS)
 }

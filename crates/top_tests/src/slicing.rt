@@ -1,5 +1,6 @@
 //! Slices of functions, and words that name none.
-use crate::running::answered;
+use crate::modules::LINKED;
+use crate::running::{Row, all_end};
 use chop_top::Status;
 use std::test::Fail;
 
@@ -20,30 +21,6 @@ define i32 @main() {
   call void @f()
   %v = load i32, ptr @g
   ret i32 %v
-}
-";
-
-const LINKED: &str = "@head = global ptr null
-declare ptr @malloc(i64)
-define void @f() {
-  %a = call ptr @malloc(i64 16)
-  %b = call ptr @malloc(i64 16)
-  store i32 3, ptr %a
-  %n = getelementptr i8, ptr %a, i64 8
-  store ptr %b, ptr %n
-  store i32 4, ptr %b
-  store ptr %a, ptr @head
-  ret void
-}
-define i32 @main() {
-  call void @f()
-  %p = load ptr, ptr @head
-  %x = load i32, ptr %p
-  %m = getelementptr i8, ptr %p, i64 8
-  %q = load ptr, ptr %m
-  %y = load i32, ptr %q
-  %s = add i32 %x, %y
-  ret i32 %s
 }
 ";
 
@@ -187,47 +164,60 @@ f:6 -> 7
 f:7 -> end
 ";
 
-#[test]
-fn slices(rt: HostRuntime) -> Result<(), Fail> {
-    for (text, location, lines) in [
-        (LINKED, "cells:f:1", "f entry -> 1\nf:1 -> 5\nf:5 -> end\n"),
-        (FAR_LOOP, "cells:@g", "f entry -> 4\nf:4 -> end\n"),
-        (FAR_LOOP, "output", "f entry -> end\n"),
-        (LATE_SUM, "result", SLICE_OF_LATE_SUM),
-        (LATE_CALL, "result", SLICE_OF_LATE_CALL),
-        (RECURSION, "cells:@g", SLICE_OF_RECURSION),
-        (FRAME, "result", SLICE_OF_FRAME),
-        (ENDLESS, "result", "f entry -> 4\nf:4 -> end\n"),
-    ] {
-        let got = answered(&rt, rt.alloc(), &["slice", "F", "f", location], text)?;
-        assert_eq!(rt; got.0, Status::Done, "at {location}");
-        assert_eq!(rt; got.1.as_slice(), lines.as_bytes(), "at {location}");
-    }
-    Ok(())
-}
+const SLICES: [Row; 8] = [
+    (
+        "slice F f cells:f:1",
+        LINKED,
+        "f entry -> 1\nf:1 -> 5\nf:5 -> end\n",
+    ),
+    ("slice F f cells:@g", FAR_LOOP, "f entry -> 4\nf:4 -> end\n"),
+    ("slice F f output", FAR_LOOP, "f entry -> end\n"),
+    ("slice F f result", LATE_SUM, SLICE_OF_LATE_SUM),
+    ("slice F f result", LATE_CALL, SLICE_OF_LATE_CALL),
+    ("slice F f cells:@g", RECURSION, SLICE_OF_RECURSION),
+    ("slice F f result", FRAME, SLICE_OF_FRAME),
+    ("slice F f result", ENDLESS, "f entry -> 4\nf:4 -> end\n"),
+];
+
+const NAMED_NOTHING: [Row; 10] = [
+    ("slice F q output", FAR_LOOP, "refused UnknownTarget q\n"),
+    ("slice F q outputs", FAR_LOOP, "refused UnknownTarget q\n"),
+    (
+        "slice F malloc output",
+        LINKED,
+        "refused UnknownTarget malloc\n",
+    ),
+    (
+        "slice F f outputs",
+        FAR_LOOP,
+        "refused UnknownTarget outputs\n",
+    ),
+    (
+        "slice F f result",
+        FAR_LOOP,
+        "refused UnknownTarget result\n",
+    ),
+    (
+        "slice F f cells:g",
+        FAR_LOOP,
+        "refused UnknownTarget cells:g\n",
+    ),
+    ("slice F f @g", FAR_LOOP, "refused UnknownTarget @g\n"),
+    (
+        "slice F f life:f:2",
+        LINKED,
+        "refused UnknownTarget life:f:2\n",
+    ),
+    (
+        "slice F f life:f:01",
+        LINKED,
+        "refused UnknownTarget life:f:01\n",
+    ),
+    ("slice F f output", "", "refused NoMain\n"),
+];
 
 #[test]
-fn words_that_name_nothing(rt: HostRuntime) -> Result<(), Fail> {
-    for (text, function, location, line) in [
-        (FAR_LOOP, "q", "output", "refused UnknownTarget q\n"),
-        (FAR_LOOP, "q", "outputs", "refused UnknownTarget q\n"),
-        (LINKED, "malloc", "output", "refused UnknownTarget malloc\n"),
-        (FAR_LOOP, "f", "outputs", "refused UnknownTarget outputs\n"),
-        (FAR_LOOP, "f", "result", "refused UnknownTarget result\n"),
-        (FAR_LOOP, "f", "cells:g", "refused UnknownTarget cells:g\n"),
-        (FAR_LOOP, "f", "@g", "refused UnknownTarget @g\n"),
-        (LINKED, "f", "life:f:2", "refused UnknownTarget life:f:2\n"),
-        (
-            LINKED,
-            "f",
-            "life:f:01",
-            "refused UnknownTarget life:f:01\n",
-        ),
-        ("", "f", "output", "refused NoMain\n"),
-    ] {
-        let got = answered(&rt, rt.alloc(), &["slice", "F", function, location], text)?;
-        assert_eq!(rt; got.0, Status::Refused, "at {line}");
-        assert_eq!(rt; got.1.as_slice(), line.as_bytes(), "at {line}");
-    }
-    Ok(())
+fn slices(rt: HostRuntime) -> Result<(), Fail> {
+    all_end(&rt, rt.alloc(), Status::Done, &SLICES)?;
+    all_end(&rt, rt.alloc(), Status::Refused, &NAMED_NOTHING)
 }

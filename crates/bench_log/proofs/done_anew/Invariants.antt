@@ -1,5 +1,0 @@
-use Rattle.bench_log.proofs.done_anew.Given as goal
-
--- the table that was just opened
-abbrev pub ghosts-done : goal.ghosts-done
-ghosts-done a = record { book = a.opened.seen.book }

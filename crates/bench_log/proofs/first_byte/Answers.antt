@@ -1,4 +1,0 @@
-use Rattle.bench_log.proofs.first_byte.Goals as goal
-
-pub read-requires : goal.read-requires
-read-requires g c = c.in_ok-at.ensures

@@ -1,8 +1,0 @@
-use Rattle.std.proofs.Common.{refl}
-use Rattle.bench_log.proofs.write.Goals as goal
-
-pub same-write_at : goal.same-write_at
-same-write_at g c = refl
-
-pub write_at-requires : goal.write_at-requires
-write_at-requires g c = c.in_ok-place.ensures

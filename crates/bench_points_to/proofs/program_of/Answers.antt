@@ -1,7 +1,0 @@
-use Rattle.std.proofs.Common.{sym, subst}
-use Rattle.flat_ir.specs.Whole.{IsWhole}
-use Rattle.bench_points_to.proofs.Whole.{choosing_is_whole}
-use Rattle.bench_points_to.proofs.program_of.Goals as goal
-
-pub new-requires : goal.new-requires
-new-requires c = subst IsWhole (sym c.in_ok-parts_of.ensures) (choosing_is_whole c.args.sites c.args.choices c.requires.some c.requires.few c.requires.choices)

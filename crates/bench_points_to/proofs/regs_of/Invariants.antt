@@ -1,6 +1,0 @@
-use Rattle.std.proofs.Common.{◌≡◌, replicate}
-use Rattle.flat_ir.specs.declared.nodes.RegType.TheVariants as kind
-use Rattle.bench_points_to.proofs.regs_of.Given as goal
-
-abbrev pub invariant-loop : goal.invariant-loop
-invariant-loop l = l.regs.items ≡ replicate l.counter kind.Ptr

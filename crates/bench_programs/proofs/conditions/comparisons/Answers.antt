@@ -1,0 +1,8 @@
+use Rattle.std.proofs.Common.{[], sym, subst}
+use Rattle.std.specs.Prelude.{All}
+use Rattle.std.proofs.lemmas.List.Elements.{All-from_recursion}
+use Rattle.term_bits.specs.Conditions.{IsConjunct}
+use Rattle.bench_programs.proofs.conditions.comparisons.Goals as goal
+
+pub loop-k-init : goal.loop-k-init
+loop-k-init g c = subst (All IsConjunct) (sym c.new-all.ensures) (All-from_recursion IsConjunct [] tt)

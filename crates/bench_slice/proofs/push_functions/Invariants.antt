@@ -1,6 +1,0 @@
-use Rattle.std.proofs.Common.{◌≡◌, replicate}
-use Rattle.bench_slice.specs.Stepping.{stepping}
-use Rattle.bench_slice.proofs.push_functions.Given as goal
-
-abbrev pub invariant-loop : goal.invariant-loop
-invariant-loop l = l.funcs.items ≡ replicate l.counter (stepping l.steps)

@@ -1,6 +1,0 @@
-use Rattle.std.proofs.Common.{◌≡◌}
-use Rattle.bench_slice.specs.Stepping.{steps}
-use Rattle.bench_slice.proofs.push_steps.Given as goal
-
-abbrev pub invariant-loop-k : goal.invariant-loop-k
-invariant-loop-k l = l.nodes.items ≡ steps l.k

@@ -1,6 +1,0 @@
-use Rattle.std.specs.Prelude.{All}
-use Rattle.term_bits.specs.Conditions.{IsConjunct}
-use Rattle.bench_solver.proofs.conditions.comparisons.Given as goal
-
-abbrev pub invariant-loop-k : goal.invariant-loop-k
-invariant-loop-k g l = All IsConjunct l.all

@@ -1,8 +1,0 @@
-use Rattle.std.proofs.Common.{[], sym, subst}
-use Rattle.std.specs.Prelude.{All}
-use Rattle.std.proofs.lemmas.List.Elements.{All-from_recursion}
-use Rattle.term_bits.specs.Conditions.{IsConjunct}
-use Rattle.bench_solver.proofs.conditions.equalities.Goals as goal
-
-pub loop-k-init : goal.loop-k-init
-loop-k-init g c = subst (All IsConjunct) (sym c.new-all.ensures) (All-from_recursion IsConjunct [] tt)

@@ -1,4 +1,0 @@
-use Rattle.bench_terms.proofs.walks.Goals as goal
-
-pub walk_often-requires : goal.walk_often-requires
-walk_often-requires g c = c.in_ok-term.ensures

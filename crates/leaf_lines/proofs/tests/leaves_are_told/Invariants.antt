@@ -1,5 +1,0 @@
-use Rattle.leaf_lines.proofs.tests.leaves_are_told.Given as goal
-
--- the table that was just opened
-abbrev pub ghosts-text_of : goal.ghosts-text_of
-ghosts-text_of g a = record { book = a.opened.seen.book }
