@@ -16,8 +16,6 @@ mod refusing;
 pub mod source;
 pub mod stop;
 pub mod terminators;
-#[cfg(test)]
-mod tests;
 pub mod text;
 pub mod types;
 pub mod words;

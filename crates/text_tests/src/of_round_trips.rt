@@ -5,10 +5,12 @@ use ir_tree::printing::print;
 use std::alloc::{AllocError, Global};
 use std::test::Fail;
 
-const SMALL: &str =
-    "@s = private constant [3 x i8] c\"ab\\00\", align 1 define dso_local i32 @\"m\\61in\"(i8 %0) { %2 = add nsw i8 %0, -1 br label %3 3: ret i32 0 }";
+const WRITTEN: &str =
+    "%\"a b\" = type <{ i8, ptr }> @s = private constant [3 x i8] c\"ab\\00\", align 1 @.t = global %t c\"\\22\\0a\\fe\" define dso_local i32 @\"m\\61in\"(i8 %0) { %2 = add nsw i8 %0, -1 br label %3 3: ret i32 0 }";
 
-const PRINTED: &str = "@s = global [3 x i8] c\"ab\\00\"
+const PRINTED: &str = "%\"a b\" = type <{ i8, ptr }>
+@s = global [3 x i8] c\"ab\\00\"
+@.t = global %t c\"\\22\\0A\\FE\"
 define i32 @main(i8 %0) {
 1:
   %2 = add i8 %0, -1
@@ -32,7 +34,7 @@ fn printed_as(alloc: Global, text: &[u8]) -> Result<Option<Vec<u8>>, AllocError>
 
 #[test]
 fn printed_twice(rt: HostRuntime) -> Result<(), Fail> {
-    for text in [SMALL, PRINTED] {
+    for text in [WRITTEN, PRINTED] {
         match printed_as(rt.alloc(), text.as_bytes())? {
             Some(printed) => assert_eq!(rt; printed.as_slice(), PRINTED.as_bytes()),
             None => assert_eq!(rt; text, ""),

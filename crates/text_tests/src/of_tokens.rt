@@ -1,5 +1,7 @@
-use crate::text::lex;
-use crate::token::{Token, TokenKind};
+//! Which tokens texts have. Places were counted by hand.
+
+use ir_lexer::text::lex;
+use ir_lexer::token::{Token, TokenKind};
 use std::alloc::AllocError;
 
 fn token(kind: TokenKind, start: u32, end: u32) -> Token {

@@ -1,7 +1,7 @@
 //! Where texts are refused, and that modules are read. A place was counted by hand.
 
-use crate::text::{SyntaxError, read};
 use ir_lexer::text::lex;
+use ir_reader::text::{SyntaxError, read};
 use std::alloc::{AllocError, Global};
 
 // Whether the text is refused at this byte, with the token's text where it is unsupported, and with none where it isn't.
