@@ -2,6 +2,6 @@
 #![tactic(auto)]
 
 #[cfg(test)]
-mod closing;
+mod of_closing;
 #[cfg(test)]
-mod slices;
+mod of_slices;
