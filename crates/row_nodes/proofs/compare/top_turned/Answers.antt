@@ -1,4 +1,4 @@
-use Rattle.std.proofs.Common.{◌≡◌, length, sym, ap, ap₂, subst, ◌∙◌}
+use Rattle.std.proofs.Common.{length, sym, ap, ap₂, subst, ◌∙◌}
 use Rattle.nodes.specs.Nodes.{Grows}
 use Rattle.nodes.specs.Names.{bits_at, AreWithin}
 use Rattle.nodes.proofs.GrowthLemmas.{grows_none, within_none}
