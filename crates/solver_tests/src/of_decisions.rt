@@ -3,8 +3,8 @@ ghost use Rattle.terms.specs.Tree.{width_of};
 ghost use Rattle.terms.specs.Value.{ReadsBelow};
 ghost use Rattle.term_bits.specs.Conditions.{IsConjunct};
 
-use decider::{Decide, Plain, Verdict};
 use bitnum::{BinOp, Num};
+use decider::{Decide, Plain, Verdict};
 use places::{Home, Opened};
 use plain_list::Sequence;
 use std::alloc::{AllocError, Global};
