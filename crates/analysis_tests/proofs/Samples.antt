@@ -7,7 +7,7 @@ use Rattle.flat_ir.specs.declared.names.RegId.{RegId}
 use Rattle.flat_ir.specs.declared.nodes.Node.{Node}
 use Rattle.flat_ir.specs.declared.nodes.RegType.TheVariants as type
 use Rattle.flat_ir.specs.Whole.{IsWhole, IsFuncOf, IsNodeOf, IsGlobalOf, InitIn, IsWidth, OperandIn, NamesIn, operands_of, results_of, successors_of}
-use Rattle.slicer.specs.Sample.{sample, sample_func, sample_main, sample_global, func_nodes, main_nodes}
+use Rattle.analysis_tests.specs.Sample.{sample, sample_func, sample_main, sample_global, func_nodes, main_nodes}
 
 abbrev RegIn : ℕ → RegId → Type 0
 RegIn regs r = r.0 < regs

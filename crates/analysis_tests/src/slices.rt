@@ -1,9 +1,8 @@
-//! The slice of a small program: a loop in front of a store, where what the store writes doesn't depend on the loop.
+//! The slice of a small program: a loop in front of a store, where what the store writes doesn't depend on the loop; main returns what was stored.
 ghost use Rattle.std.specs.Prelude.{◌≡◌, ◌<◌, [], replicate, IfOk};
 ghost use Rattle.slicer.specs.Locations.{IsLocationOf};
-ghost use Rattle.slicer.specs.Sample.{sample, sample_func, sample_global, sample_main};
+ghost use Rattle.analysis_tests.specs.Sample.{sample, sample_func, sample_global, sample_main};
 
-use crate::slice;
 use bitnum::{BinOp, Num, Pred};
 use flat_ir::{
     Func, FuncId, GlobalVar, Kept, Location, MoveSet, Next, Node, NodeId, Operand, Program,
@@ -11,6 +10,7 @@ use flat_ir::{
 };
 use plain_list::Sequence;
 use points_to::points_to;
+use slicer::slice;
 use std::alloc::{AllocError, Global};
 
 fn the_global(alloc: Global) -> GlobalVar
@@ -170,30 +170,6 @@ fn the_slice(alloc: Global, f: FuncId, at: Location) -> Result<Residual, AllocEr
     let program = the_program(alloc)?;
     let sets = points_to(alloc, &program)?;
     slice(alloc, &program, &sets, f, at)
-}
-
-// The store alone is retained: the loop in front of it, with its test and its phi, is left out.
-#[test]
-fn a_far_loop_is_left_out(rt: HostRuntime) -> Result<(), AllocError> {
-    let alloc = rt.alloc();
-    let residual = the_slice(alloc, FuncId(0), Location::Cells(Site::Global(0)))?;
-    match residual.funcs.as_slice().get(0) {
-        Some(kept) => {
-            assert_eq!(rt; kept.start, Next::Node(NodeId(4)));
-            assert_eq!(rt; nexts(kept, 4), [Next::End].as_slice());
-            assert_eq!(rt; nexts(kept, 3).len(), 0);
-            assert_eq!(rt; nexts(kept, 5).len(), 0);
-        }
-        None => assert!(rt; false),
-    }
-    match residual.funcs.as_slice().get(1) {
-        Some(kept) => {
-            assert_eq!(rt; kept.start, Next::End);
-            assert_eq!(rt; nexts(kept, 0).len(), 0);
-        }
-        None => assert!(rt; false),
-    }
-    Ok(())
 }
 
 // What main returns needs its load, the call that stores, and in the callee the store.
