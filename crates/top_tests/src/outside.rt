@@ -41,7 +41,8 @@ fn kept(rt: &HostRuntime, place: &str, limit: usize) -> Result<Vec<u8>, ReadErro
     let Ok(name) = String::from_str(rt.alloc(), place) else {
         return Err(ReadError::Memory);
     };
-    read_whole(rt.alloc(), &mut HostFiles::new(rt), name, limit)
+    let mut files = HostFiles::new(rt);
+    read_whole(rt.alloc(), &mut files, name, limit)
 }
 
 #[test]
@@ -58,9 +59,10 @@ fn the_host_keeps_what_was_written(rt: HostRuntime) -> Result<(), Fail> {
     let whole = kept(&rt, place, 11);
     let most = kept(&rt, place, 10);
     fs::remove_file(&rt, place)?;
+    let gone = kept(&rt, place, 16);
     assert!(rt; whole.is_ok_and(|bytes| bytes.as_slice() == b"seven bytes".as_slice()));
     assert!(rt; matches!(most, Err(ReadError::TooLarge)));
-    assert!(rt; matches!(kept(&rt, place, 16), Err(ReadError::Fault)));
+    assert!(rt; matches!(gone, Err(ReadError::Fault)));
     FreeGate.pass(7);
     Ok(())
 }
