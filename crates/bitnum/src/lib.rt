@@ -3,8 +3,6 @@
 
 mod bits;
 mod num;
-#[cfg(test)]
-mod tests;
 
 pub use num::{Num, apply, compare, divide, sext, trunc, zext};
 

@@ -11,6 +11,7 @@ use places::Home;
 use plain_list::Sequence;
 use state_sides::{Machine, State, Step, nodes_of, types_of};
 use std::alloc::{AllocError, Global};
+use std::mem;
 use sym_bytes::SymValue;
 use sym_states::Frame;
 use write_log::SymMemory;
@@ -91,6 +92,24 @@ pub fn entered<H: Home, D: Decide>(
     Ok(Frame::new(func, machine.place_first(func), regs, name, counts))
 }
 
+// Puts the frame that a call makes above the caller, which has executed its node.
+fn put_above<H: Home, K: SymMemory, D: Decide>(
+    machine: &Machine<'_, H, D>,
+    func: FuncId,
+    args: Sequence<SymValue<H>>,
+    state: &mut State<H, K>,
+) -> Result<(), AllocError>
+    ensures { OnOk result (states.Goes (state_seen state.new) ≡ attempts.enters (context_of machine.now.scope) func args (state_seen state.old)) }
+{
+    let alloc = machine.terms.alloc();
+    let name = state.frame.name_below(alloc)?;
+    let frame = entered(machine, func, args, name)?;
+    let mut caller = mem::replace(&mut state.frame, frame);
+    caller.counted()?;
+    state.callers = state.callers.with(alloc, caller)?;
+    Ok(())
+}
+
 /// A call of a function with arguments: the frame that it makes is the newest, and the caller has executed its node.
 ///
 /// # Errors
@@ -104,11 +123,11 @@ pub fn enters<H: Home, K: SymMemory, D: Decide>(
 ) -> Result<Step<H, K>, AllocError>
     ensures { IfOk result (λ step. step_seen step ≡ attempts.enters (context_of machine.now.scope) func args (state_seen state)) }
 {
-    let alloc = machine.terms.alloc();
-    let name = state.frame.name_below(alloc)?;
-    let frame = entered(machine, func, args, name)?;
-    let caller = state.frame.counted()?;
-    state.frame = frame;
-    state.callers = state.callers.with(alloc, caller)?;
-    Ok(Step::Goes(state))
+    match put_above(machine, func, args, &mut state) {
+        Ok(()) => Ok(Step::Goes(state)),
+        Err(error) => {
+            drop(state);
+            Err(error)
+        }
+    }
 }

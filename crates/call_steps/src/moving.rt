@@ -33,15 +33,13 @@ fn read_all<H: Home, K: Index>(
     Ok(pairs)
 }
 
-fn set_each<H: Home>(frame: Frame<H>, pairs: Vec<(RegId, SymValue<H>)>) -> Frame<H>
-    ensures { result ≡ all_set pairs.items frame }
+fn set_each<H: Home>(frame: &mut Frame<H>, pairs: Vec<(RegId, SymValue<H>)>)
+    ensures { frame.new ≡ all_set pairs.items frame.old }
 {
-    let mut now = frame;
     'pairs: for pair in pairs {
         let (register, value) = pair;
-        now = now.set(register, value);
+        frame.set(register, value);
     }
-    now
 }
 
 /// The state whose frame has all the registers set, each to its value before any is set.
@@ -57,7 +55,7 @@ pub fn set_all<H: Home, K: Index>(
     ensures { IfOk result (λ s. state_seen s ≡ states.in_frame (values.set_all (state_seen state) sets.now state.frame) (state_seen state)) }
 {
     let pairs = read_all(terms, &state, sets)?;
-    state.frame = set_each(state.frame, pairs);
+    set_each(&mut state.frame, pairs);
     Ok(state)
 }
 

@@ -1,5 +1,5 @@
 //! Returns, which end frames.
-ghost use Rattle.std.specs.Prelude.{◌≡◌, length, unwrap_or, IfOk};
+ghost use Rattle.std.specs.Prelude.{◌≡◌, ◌∷◌, [], length, unwrap_or, IfOk, MatchOption};
 ghost use Rattle.std.specs.Option.{option_copied, option_map, option_to_list};
 ghost use Rattle.flat_ir.specs.declared.nodes.Node.TheVariants as node;
 ghost use Rattle.flat_ir.specs.Steps as steps;
@@ -17,7 +17,8 @@ use flat_ir::{Node, Operand, RegId};
 use node_values::value_in;
 use places::Home;
 use state_sides::{Flow, Machine, State, Step, node_in};
-use std::alloc::AllocError;
+use std::alloc::{AllocError, Global};
+use std::mem;
 use step_tests::firm;
 use sym_bytes::SymValue;
 use sym_states::{Callers, Frame};
@@ -38,13 +39,33 @@ fn call_result(call: Option<&Node>) -> Option<RegId>
 pub fn resumed<H: Home, D: Decide>(
     machine: &Machine<'_, H, D>,
     value: Option<SymValue<H>>,
-    caller: Frame<H>,
+    mut caller: Frame<H>,
 ) -> Frame<H>
     ensures { result ≡ attempts.resumed (context_of machine.now.scope) value caller }
 {
     let call = node_in(machine.scope.program, caller.func(), caller.place().node());
     let register = call_result(call);
-    machine.moved(0, caller.set_if(register, value))
+    caller.set_if(register, value);
+    machine.moved(0, &mut caller);
+    caller
+}
+
+// Takes off the newest of the frames, if there is one.
+fn take_newest<H: Home>(
+    alloc: Global,
+    callers: &mut Callers<H>,
+) -> Result<Option<Frame<H>>, AllocError>
+    ensures { IfOk result (λ o. MatchOption o ((callers.old ≡ []) × (callers.new ≡ [])) (λ frame. callers.old ≡ frame ∷ callers.new)) }
+{
+    let none = Callers::new(alloc)?;
+    let all = mem::replace(callers, none);
+    match all.split(alloc)? {
+        None => Ok(None),
+        Some((frame, older)) => {
+            *callers = older;
+            Ok(Some(frame))
+        }
+    }
 }
 
 // The caller goes on, if there is one; else it is the end.
@@ -57,17 +78,16 @@ fn leaves_to<H: Home, K: SymMemory, D: Decide>(
     requires value { ValueFitsIf (length state.kept) value }
     ensures { IfOk result (λ step. step_seen step ≡ attempts.leaves_to (context_of machine.now.scope) value state.callers (state_seen state)) }
 {
-    let alloc = machine.terms.alloc();
-    let newest = state.callers.split(alloc)?;
-    match newest {
-        None => {
-            state.callers = Callers::new(alloc)?;
-            ends_first(machine.terms, value, state)
-        }
-        Some((caller, callers)) => {
+    match take_newest(machine.terms.alloc(), &mut state.callers) {
+        Ok(None) => ends_first(machine.terms, value, state),
+        Ok(Some(caller)) => {
             state.frame = resumed(machine, value, caller);
-            state.callers = callers;
             Ok(Step::Goes(state))
+        }
+        Err(error) => {
+            drop(value);
+            drop(state);
+            Err(error)
         }
     }
 }
@@ -175,7 +195,7 @@ fn call_returns<H: Home, K: SymMemory, D: Decide>(
     ensures { IfOk result (λ step. step_seen step ≡ attempts.ends_frame (context_of machine.now.scope) (option_map (operand_value (state_seen state)) value.now) (states.in_frame (states.counted state.frame) (state_seen state))) }
 {
     let value = returned(machine.terms, &state, value)?;
-    state.frame = state.frame.counted()?;
+    state.frame.counted()?;
     ends_frame(machine, value, state)
 }
 

@@ -2,7 +2,7 @@
 use Rattle.std.proofs.Common.{◌≡◌, ◌≢◌, ◌<◌, ◌≤◌, ◌↔◌, ◌⊎◌, inl, inr, ℕ, Bool, true, false, not, List, All, Option, Some, None, length, refl, subst, arith, ◌+◌, below_more}
 use Rattle.std.specs.Prelude.{slice_get, IsTrue}
 use Rattle.std.specs.List.{Contains}
-use Rattle.std.proofs.lemmas.Bool.{cases_lt}
+use Rattle.std.proofs.lemmas.Bool.{cases_lt, not-true, not_from_false}
 use Rattle.std.proofs.lemmas.List.Elements.{All-contains, All-weaker}
 use Rattle.std.proofs.lemmas.Option.{same_Some, slice_get_within}
 use Rattle.flat_ir.specs.declared.names.NodeId.{NodeId}
@@ -50,21 +50,13 @@ first_here f u n tells e =
 same_node : (o : Option Node) (x y : Node) → o ≡ Some x → o ≡ Some y → x ≡ y
 same_node o x y e d = same_Some x y (cc)
 
-not_both : (b : Bool) → not b ≡ true → b ≡ false
-not_both true e = cc
-not_both false e = refl
-
-is_not : (b : Bool) → b ≡ false → not b ≡ true
-is_not true e = cc
-is_not false e = refl
-
 pub clash_by_types : (funcs : List Func) (f : Func) (n : ℕ) (x : Node) (typed : Bool) → slice_get f.nodes n ≡ Some x → (Contains f.clashes (node_of n) → ⊥) →
     typed ≡ is_typed funcs f.regs f.result x → IsTrue (not typed) ↔ IsClash funcs f (node_of n)
-clash_by_types funcs f n x typed there unknown e = (λ wrong. mistyped x there (cc (not_both typed wrong)), λ c. back c)
+clash_by_types funcs f n x typed there unknown e = (λ wrong. mistyped x there (cc (not-true typed wrong)), λ c. back c)
   where
     back : IsClash funcs f (node_of n) → not typed ≡ true
     back (known among) = absurd (unknown among)
-    back (mistyped y here wrong) = let same : x ≡ y = same_node (slice_get f.nodes n) x y there here in is_not typed (cc)
+    back (mistyped y here wrong) = let same : x ≡ y = same_node (slice_get f.nodes n) x y there here in not_from_false typed (cc)
 
 pub clash_known : (funcs : List Func) (f : Func) (n : NodeId) → Contains f.clashes n → IsTrue true ↔ IsClash funcs f n
 clash_known funcs f n among = (λ e. known among, λ c. refl)

@@ -3,4 +3,3 @@ pub mod Typed
 pub mod Errors
 pub mod Steps
 pub mod Laws
-pub mod Sample

@@ -3,8 +3,6 @@
 #![tactic(auto)]
 
 mod checking;
-#[cfg(test)]
-mod tests;
 mod typed;
 mod types;
 

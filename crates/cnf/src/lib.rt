@@ -13,14 +13,11 @@ ghost use Rattle.cnf.specs.Rup.{IsRefutation};
 ghost use Rattle.cnf.specs.Rounds.{forced, conflicts};
 ghost use Rattle.cnf.specs.UnitRule.{IsUnitState, Joins};
 
-#[cfg(test)]
-mod tests;
-
 use std::alloc::{AllocError, Global};
 use std::marker::Model;
 
 /// A variable, by its number, or its negation.
-#[derive(Clone, Copy, Debug, PartialEq, Eq)]
+#[derive(Clone, Copy, PartialEq, Eq)]
 pub struct Lit {
     pub var: u64,
     pub positive: bool,
@@ -64,7 +61,7 @@ pub fn are_below(clauses: &[Clause], vars: u64) -> bool
 }
 
 /// What a clause is under a partial assignment.
-#[derive(Clone, Copy, Debug, PartialEq, Eq)]
+#[derive(Clone, Copy)]
 pub enum UnitState {
     /// A literal is true.
     Satisfied,
@@ -116,7 +113,7 @@ pub fn unassigned(alloc: Global, vars: usize) -> Result<Vec<Option<bool>>, Alloc
 }
 
 /// What one pass over all clauses did.
-#[derive(Clone, Copy, Debug, PartialEq, Eq)]
+#[derive(Clone, Copy)]
 pub enum Pass {
     /// A clause is false under what the assignment forces.
     Conflict,

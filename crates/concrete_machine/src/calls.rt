@@ -10,10 +10,13 @@ ghost use Rattle.flat_ir.specs.Whole.{IsWhole, IsWidth};
 ghost use Rattle.concrete_machine.specs.Frames.{frame_of};
 ghost use Rattle.concrete_machine.specs.Standing.{Attempts};
 
-use crate::frames::{nodes_of, null, step_here, types_of, value_of};
+use crate::frames::{null, step_here, value_of};
 use crate::machine::{Frame, Led, Machine};
 use bitnum::Num;
-use flat_ir::{ConcreteValue, FrameName, FuncId, Node, NodeId, Operand, ProgramData, RegType};
+use flat_ir::{
+    ConcreteValue, FrameName, FuncId, Node, NodeId, Operand, ProgramData, RegType, nodes_of,
+    types_of,
+};
 use std::alloc::{AllocError, Global};
 use std::mem;
 

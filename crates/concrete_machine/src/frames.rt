@@ -1,54 +1,13 @@
 //! What a frame has, and what is put into it.
-ghost use Rattle.std.specs.Prelude.{◌≡◌, IfOk, slice_set, slice_get};
-ghost use Rattle.std.specs.Option.{option_copied};
+ghost use Rattle.std.specs.Prelude.{◌≡◌, IfOk, slice_set};
 ghost use Rattle.flat_ir.specs.Machine as spec;
 ghost use Rattle.flat_ir.specs.Registers as registers;
 ghost use Rattle.concrete_machine.specs.Frames.{frame_of, HasRoom};
 
 use crate::machine::Frame;
 use bitnum::Num;
-use flat_ir::{
-    Address, CallStep, ConcreteValue, FuncId, Node, NodeId, ObjectName, Operand, ProgramData,
-    RegId, RegType,
-};
+use flat_ir::{Address, CallStep, ConcreteValue, ObjectName, Operand, RegId};
 use std::alloc::AllocError;
-
-/// The nodes of a function.
-pub(crate) fn nodes_of(program: &ProgramData, func: FuncId) -> &[Node]
-    ensures { result.now ≡ spec.nodes_of (spec.func_at program.now func) }
-{
-    match program.funcs.get(func.0 as usize) {
-        Some(found) => found.nodes.as_slice(),
-        None => &[],
-    }
-}
-
-/// The types of a function's registers.
-pub(crate) fn types_of(program: &ProgramData, func: FuncId) -> &[RegType]
-    ensures { result.now ≡ spec.regs_of (spec.func_at program.now func) }
-{
-    match program.funcs.get(func.0 as usize) {
-        Some(found) => found.regs.as_slice(),
-        None => &[],
-    }
-}
-
-/// The node of a function, if it is there.
-pub(crate) fn node_in(program: &ProgramData, func: FuncId, node: NodeId) -> Option<&Node>
-    ensures { option_copied result ≡ slice_get (spec.nodes_of (spec.func_at program.now func)) node.0 }
-{
-    nodes_of(program, func).get(node.0 as usize)
-}
-
-/// The type of a function's register.
-pub(crate) fn type_at(program: &ProgramData, func: FuncId, register: RegId) -> RegType
-    ensures { result ≡ spec.type_at program.now func register }
-{
-    match types_of(program, func).get(register.0 as usize) {
-        Some(found) => *found,
-        None => RegType::Ptr,
-    }
-}
 
 /// The pointer into no object.
 pub(crate) fn null() -> ConcreteValue

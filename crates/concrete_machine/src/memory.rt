@@ -13,11 +13,13 @@ ghost use Rattle.concrete_machine.specs.Standing.{Attempts, AttemptsAnywhere};
 ghost use Rattle.concrete_machine.specs.Making.{Makes};
 ghost use Rattle.typed_runs.specs.Suiting.{TakesBytes};
 
-use crate::frames::{address_of, null, number_of, step_here, type_at, value_of};
+use crate::frames::{address_of, null, number_of, step_here, value_of};
 use crate::machine::{Frame, Led, Machine};
 use bitnum::sext;
 use concrete_memory::AccessError;
-use flat_ir::{Address, ConcreteValue, GepPart, NodeId, ObjectName, Operand, Program, RegId};
+use flat_ir::{
+    Address, ConcreteValue, GepPart, NodeId, ObjectName, Operand, Program, RegId, type_at,
+};
 use std::alloc::AllocError;
 
 // The object that the frame's node makes now.

@@ -12,11 +12,12 @@ ghost use Rattle.concrete_machine.specs.Standing.{Attempts, AttemptsAnywhere};
 ghost use Rattle.concrete_machine.specs.Suiting.{number_here};
 ghost use Rattle.typed_runs.specs.Suiting.{AreAlike, IsNumbers};
 
-use crate::frames::{number_of, type_at, value_of};
+use crate::frames::{number_of, value_of};
 use crate::machine::{Frame, Led, Machine};
 use bitnum::{BinOp, Num, Pred, apply, compare, divide, sext, trunc, zext};
 use flat_ir::{
     Address, CastOp, ConcreteValue, FaultKind, NodeId, Operand, ProgramData, RegId, RegType,
+    type_at,
 };
 use std::alloc::AllocError;
 

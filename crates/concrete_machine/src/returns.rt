@@ -11,10 +11,13 @@ ghost use Rattle.concrete_machine.specs.Frames.{frame_of};
 ghost use Rattle.concrete_machine.specs.Standing.{Attempts};
 ghost use Rattle.concrete_machine.specs.Suiting.{Keeps};
 
-use crate::frames::{node_in, nodes_of, number, set_if, value_of};
+use crate::frames::{number, set_if, value_of};
 use crate::machine::{Frame, Led, Machine};
 use concrete_memory::Store;
-use flat_ir::{CallStep, ConcreteValue, Node, NodeId, ObjectName, Operand, ProgramData, RegId};
+use flat_ir::{
+    CallStep, ConcreteValue, Node, NodeId, ObjectName, Operand, ProgramData, RegId, node_in,
+    nodes_of,
+};
 use std::alloc::AllocError;
 
 // What the frame's node made when it was executed for the k-th time.

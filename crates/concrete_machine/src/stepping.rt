@@ -5,9 +5,9 @@ ghost use Rattle.concrete_machine.specs.Standing.{Attempts, AttemptsAnywhere};
 ghost use Rattle.concrete_machine.specs.Stepping.{IsRunning, StepsAs};
 ghost use Rattle.concrete_machine.specs.Suiting.{IsComputing, IsOfMemory, Suits};
 
-use crate::frames::{count, node_in, number_of};
+use crate::frames::{count, number_of};
 use crate::machine::{Led, Machine};
-use flat_ir::{FaultKind, Node, Operand, Program};
+use flat_ir::{FaultKind, Node, Operand, Program, node_in};
 use std::alloc::AllocError;
 
 impl Machine {

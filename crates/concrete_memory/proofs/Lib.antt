@@ -4,7 +4,6 @@ pub mod FreeFaults
 pub mod Places
 pub mod Powers
 pub mod Reached
-pub mod Samples
 pub mod Starts
 pub mod Stored
 pub mod Unmade

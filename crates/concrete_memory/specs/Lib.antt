@@ -2,5 +2,4 @@ pub mod Accesses
 pub mod Cutting
 pub mod Loading
 pub mod Objects
-pub mod Sample
 pub mod Standing

@@ -3,8 +3,6 @@
 
 mod joining;
 mod objects;
-#[cfg(test)]
-mod tests;
 mod values;
 
 pub use joining::{join_value, size_of_type};

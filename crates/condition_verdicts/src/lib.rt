@@ -10,9 +10,6 @@ ghost use Rattle.terms.specs.Value.{are_met_by};
 ghost use Rattle.term_bits.specs.Conditions.{IsConjunct, condition_bits};
 ghost use Rattle.condition_verdicts.specs.Inputs.{condition_verdict, found_input, IsAtMostInput};
 
-#[cfg(test)]
-mod tests;
-
 /// A model names an input that meets the condition, the least of all that do. Where the search is
 /// refuted, no input meets it. A condition that reads at most two bytes of input is decided by a
 /// budget of 65,537.

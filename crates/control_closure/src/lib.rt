@@ -5,8 +5,6 @@ mod closing;
 mod graph;
 mod meeting;
 mod summing;
-#[cfg(test)]
-mod tests;
 
 pub use closing::{close, closed_sets_meet_one, closing_closes, closing_round};
 pub use graph::Graph;

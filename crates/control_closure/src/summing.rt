@@ -12,7 +12,7 @@ use least::{Rules, add, least_set};
 use std::alloc::{AllocError, Global};
 
 /// Of the retained nodes that a node meets first: that there is none, the only one, or that there are several.
-#[derive(Clone, Copy, Debug)]
+#[derive(Clone, Copy)]
 pub enum Met {
     Nothing,
     One(u32),

@@ -11,8 +11,6 @@ ghost use Rattle.decider.specs.declared.Verdict.TheVariants.{Sat, Unsat, Spent};
 
 mod found;
 mod plain;
-#[cfg(test)]
-mod tests;
 
 use places::Home;
 pub use plain::Plain;

@@ -2,15 +2,15 @@
 #![tactic(auto)]
 
 mod check;
+mod lookups;
 mod names;
 mod nodes;
 mod program;
 mod residual;
-#[cfg(test)]
-mod tests;
 mod values;
 
 pub use check::CheckError;
+pub use lookups::{node_in, nodes_of, type_at, types_of};
 pub use names::{
     CallStep, FrameName, FuncId, Location, NodeId, ObjectName, RegId, Site, same_frames,
     same_objects,

@@ -4,8 +4,6 @@
 mod finding;
 mod operands;
 mod tables;
-#[cfg(test)]
-mod tests;
 mod undefined;
 mod unset;
 

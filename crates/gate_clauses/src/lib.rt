@@ -4,7 +4,5 @@
 mod clauses;
 mod inputs;
 mod numbers;
-#[cfg(test)]
-mod tests;
 
 pub use clauses::{Blasted, clauses_at};

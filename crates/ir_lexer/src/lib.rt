@@ -4,7 +4,5 @@
 
 pub mod classes;
 mod scan;
-#[cfg(test)]
-mod tests;
 pub mod text;
 pub mod token;

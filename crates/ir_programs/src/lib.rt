@@ -9,8 +9,6 @@ mod parts;
 mod refusals;
 mod registers;
 mod repeats;
-#[cfg(test)]
-mod tests;
 
 pub use absences::{absences_told, is_known, labels_told};
 pub use integers::fits_width;

@@ -4,7 +4,7 @@ ghost use Rattle.ir_programs.specs.Answers.{FirstIsTold, NotBoth, ProgramIsOne};
 ghost use Rattle.ir_programs.specs.Refusals as spec;
 
 /// A condition that fails at a place of a module's text, in the order in which they are told at one place.
-#[derive(Clone, Copy, Debug, PartialEq, Eq)]
+#[derive(Clone, Copy)]
 pub enum Cause {
     /// A type, register or label that is used isn't defined; or a global that is used, but not called, is neither defined nor
     /// one of the known functions.
@@ -30,7 +30,7 @@ pub enum Cause {
 }
 
 /// A condition that fails, and the byte of the text at which it does.
-#[derive(Clone, Copy, Debug, PartialEq, Eq)]
+#[derive(Clone, Copy)]
 pub struct Refusal {
     pub at: u32,
     pub cause: Cause,

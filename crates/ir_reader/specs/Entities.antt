@@ -4,12 +4,12 @@ use Rattle.ir_tree.specs.declared.module.IrTree.{IrTree}
 use Rattle.phrases.specs.Phrase.{Phrase, Outcome, got, and_then, either}
 use Rattle.ir_grammar.specs.Tokens.{a_local, a_global, word}
 use Rattle.ir_grammar.specs.Module.{Entity as GrammarEntity, nothing, a_type, a_global_definition, a_declare, a_function, types_of, globals_of, declares_of, functions_of, type_definition, global_definition, declare, define}
-use Rattle.ir_reader.specs.declared.stop.Stop.{Stop}
-use Rattle.ir_reader.specs.declared.source.Source.{Source}
+use Rattle.reader_words.specs.declared.stop.Stop.{Stop}
+use Rattle.reader_words.specs.declared.source.Source.{Source}
 use Rattle.ir_reader.specs.declared.entities.Entity.{Entity}
 use Rattle.ir_reader.specs.declared.entities.Entity.TheVariants as coded
-use Rattle.ir_reader.specs.Source.{pieces}
-use Rattle.ir_reader.specs.Gives.{Fails}
+use Rattle.reader_words.specs.Source.{pieces}
+use Rattle.reader_words.specs.Gives.{Fails}
 
 -- the tokens after what is read as a given value
 abbrev pub MovesPast : {A : Type 0} → A → Result Source Stop → Outcome A → Type 0

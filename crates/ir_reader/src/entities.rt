@@ -1,30 +1,23 @@
-//! Headers of functions, and what a module consists of.
+//! What a module consists of.
 
-ghost use Rattle.std.specs.Prelude.{◌≡◌, ◌∷◌, [], codes, OnOk};
+ghost use Rattle.std.specs.Prelude.{◌≡◌, ◌∷◌, [], OnOk};
 ghost use Rattle.phrases.specs.Piece.{starts};
-ghost use Rattle.ir_grammar.specs.Types.{behind_commas, listed};
-ghost use Rattle.ir_grammar.specs.Module.{parameter as parameter_phrase, header as header_phrase, nothing, a_type, a_global_definition, a_declare, a_function, source_name as source_phrase, target_line as target_phrase, attribute_group as group_phrase, type_definition as type_phrase, global_definition as global_phrase, declare as declare_phrase, define as define_phrase, entity as entity_phrase, entity_starts, module_text};
-ghost use Rattle.ir_reader.specs.Source.{pieces};
-ghost use Rattle.ir_reader.specs.Gives.{Gives};
-ghost use Rattle.ir_reader.specs.Lines.{GivesAs};
+ghost use Rattle.ir_grammar.specs.Module.{nothing, a_declare, a_function, source_name as source_phrase, target_line as target_phrase, attribute_group as group_phrase, declare as declare_phrase, define as define_phrase, entity as entity_phrase, entity_starts, module_text};
+ghost use Rattle.reader_words.specs.Source.{pieces};
+ghost use Rattle.reader_words.specs.Gives.{Gives, GivesAs};
 ghost use Rattle.ir_reader.specs.Entities.{entity_of, with_entities, MovesPast, function_entity as function_phrase, named_entity as named_phrase};
 
-use crate::constants::typed_constant;
-use crate::ignored::{after, attributes, ignored, tail};
-use crate::names::{global_name, local_name};
-use crate::source::Source;
-use crate::stop::Stop;
-use crate::terminators::{block, blocks};
-use crate::types::{NESTING, mem_type, result_type, value_type};
-use crate::words::{
-    has_kind, has_mark, has_word, has_word_of, skip_all_but, skip_kind, skip_mark, skip_word,
-    skip_word_of,
-};
 use ir_lexer::token::TokenKind;
-use ir_tree::module::{
-    FunctionDefinition, GlobalDefinition, Header, IrTree, Parameter, TypeDefinition,
-};
+use ir_tree::module::{FunctionDefinition, GlobalDefinition, Header, IrTree, TypeDefinition};
 use plain_list::Sequence;
+use reader_blocks::blocks::{block, blocks};
+use reader_globals::definitions::{global_definition, type_definition};
+use reader_globals::headers::header;
+use reader_words::source::Source;
+use reader_words::stop::Stop;
+use reader_words::words::{
+    has_kind, has_word, has_word_of, skip_all_but, skip_kind, skip_mark, skip_word, skip_word_of,
+};
 use std::alloc::{AllocError, Global};
 
 /// What a module consists of.
@@ -37,82 +30,6 @@ pub enum Entity {
     Declare(Header),
     Function(FunctionDefinition),
 }
-
-// ---- headers
-
-#[tactic(auto, unfolding(ir_grammar::specs::Module::parameter))]
-fn parameter<'a>(alloc: Global, source: Source<'a>) -> Result<(Parameter, Source<'a>), Stop<'a>>
-    ensures { Gives result (parameter_phrase.reads (pieces source.entry)) }
-{
-    let (kind, source) = value_type(source)?;
-    let source = attributes(source)?;
-    if has_kind(source, TokenKind::Local) {
-        let (name, source) = local_name(alloc, source)?;
-        let name = Some(name);
-        return Ok((Parameter { kind, name }, source));
-    }
-    let name = None;
-    Ok((Parameter { kind, name }, source))
-}
-
-/// Parameters, each behind a comma.
-fn other_parameters<'a>(
-    alloc: Global,
-    source: Source<'a>,
-) -> Result<(Sequence<Parameter>, Source<'a>), Stop<'a>>
-    ensures { Gives result ((behind_commas parameter_phrase).reads (pieces source.entry)) }
-{
-    let mut found = Sequence::new(alloc);
-    let mut rest = source;
-    'commas: while has_mark(rest, b",") {
-        let after = skip_mark(rest, b",")?;
-        let (next, after) = parameter(alloc, after)?;
-        found.push(next)?;
-        rest = after;
-    }
-    Ok((found, rest))
-}
-
-/// Parameters with commas between them, and the closing parenthesis.
-fn parameters<'a>(
-    alloc: Global,
-    source: Source<'a>,
-) -> Result<(Sequence<Parameter>, Source<'a>), Stop<'a>>
-    ensures { Gives result ((listed (codes ")") parameter_phrase).reads (pieces source.entry)) }
-{
-    let mut found = Sequence::new(alloc);
-    if has_mark(source, b")") {
-        let source = skip_mark(source, b")")?;
-        return Ok((found, source));
-    }
-    let (first, source) = parameter(alloc, source)?;
-    let (others, source) = other_parameters(alloc, source)?;
-    let source = skip_mark(source, b")")?;
-    found.push(first)?;
-    found.append(others)?;
-    Ok((found, source))
-}
-
-/// The header of a function.
-#[tactic(auto, unfolding(ir_grammar::specs::Module::header))]
-fn header<'a>(alloc: Global, source: Source<'a>) -> Result<(Header, Source<'a>), Stop<'a>>
-    ensures { Gives result (header_phrase.reads (pieces source.entry)) }
-{
-    let source = ignored(source)?;
-    let (kind, source) = result_type(source)?;
-    let (name, source) = global_name(alloc, source)?;
-    let source = skip_mark(source, b"(")?;
-    let (parameters, source) = parameters(alloc, source)?;
-    let source = tail(source)?;
-    let found = Header {
-        result: kind,
-        name,
-        parameters,
-    };
-    Ok((found, source))
-}
-
-// ---- entities
 
 /// The name of the source file.
 fn source_name(source: Source<'_>) -> Result<Source<'_>, Stop<'_>>
@@ -145,37 +62,6 @@ fn attribute_group(source: Source<'_>) -> Result<Source<'_>, Stop<'_>>
     let source = skip_mark(source, b"{")?;
     let source = skip_all_but(source, b"}");
     skip_mark(source, b"}")
-}
-
-fn type_definition<'a>(
-    alloc: Global,
-    source: Source<'a>,
-) -> Result<(TypeDefinition, Source<'a>), Stop<'a>>
-    ensures { GivesAs a_type result (type_phrase.reads (pieces source.entry)) }
-{
-    let (name, source) = local_name(alloc, source)?;
-    let source = skip_mark(source, b"=")?;
-    let source = skip_word(source, b"type")?;
-    let (kind, source) = mem_type(alloc, source, NESTING)?;
-    Ok((TypeDefinition { name, kind }, source))
-}
-
-/// The words before the type of a global.
-const GLOBALS: [&[u8]; 2] = [b"global", b"constant"];
-
-fn global_definition<'a>(
-    alloc: Global,
-    source: Source<'a>,
-) -> Result<(GlobalDefinition, Source<'a>), Stop<'a>>
-    ensures { GivesAs a_global_definition result (global_phrase.reads (pieces source.entry)) }
-{
-    let (name, source) = global_name(alloc, source)?;
-    let source = skip_mark(source, b"=")?;
-    let source = ignored(source)?;
-    let source = skip_word_of(source, &GLOBALS)?;
-    let (value, source) = typed_constant(alloc, source, NESTING)?;
-    let source = after(source)?;
-    Ok((GlobalDefinition { name, value }, source))
 }
 
 fn declare<'a>(alloc: Global, source: Source<'a>) -> Result<(Header, Source<'a>), Stop<'a>>

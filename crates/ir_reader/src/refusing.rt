@@ -3,13 +3,13 @@
 ghost use Rattle.std.specs.Prelude.{◌≡◌, ◌<◌, ◌^◌, length};
 ghost use Rattle.phrases.specs.Piece.{among, matches};
 ghost use Rattle.ir_grammar.specs.Unsupported.{unsupported_tokens};
-ghost use Rattle.ir_reader.specs.Source.{piece_of, pieces};
+ghost use Rattle.reader_words.specs.Source.{piece_of, pieces};
 ghost use Rattle.ir_reader.specs.Refusing.{wide_integer, unsupported_marks, hash_name, Tells};
 
-use crate::source::{Lexeme, Source};
 use crate::text::SyntaxError;
 use ir_lexer::token::TokenKind;
 use plain_list::Sequence;
+use reader_words::source::{Lexeme, Source};
 use std::alloc::{AllocError, Global};
 
 /// Words that are unsupported wherever they are refused.
@@ -94,49 +94,47 @@ const UNSUPPORTED_WORDS: [&[u8]; 78] = [
     b"inrange",
 ];
 
-impl<'a> Lexeme<'a> {
-    /// Whether it is the name of an integer type of no bits or more than 64.
-    fn is_wide_integer(self) -> bool
-        ensures { result ≡ matches wide_integer (piece_of self.entry) }
-    {
-        self.is_integer_type() && self.width().is_none()
-    }
+/// Whether a token is the name of an integer type of no bits or more than 64.
+fn is_wide_integer(found: Lexeme<'_>) -> bool
+    ensures { result ≡ matches wide_integer (piece_of found.entry) }
+{
+    found.is_integer_type() && found.width().is_none()
+}
 
-    /// Whether it is a `#` with a name behind it.
-    fn is_hash_name(self) -> bool
-        ensures { result ≡ matches hash_name (piece_of self.entry) }
-    {
-        if !self.is(TokenKind::Punct) {
-            return false;
-        }
-        match self.text {
-            [first, ..] => *first == b'#',
-            [] => false,
-        }
+/// Whether it is a `#` with a name behind it.
+fn is_hash_name(found: Lexeme<'_>) -> bool
+    ensures { result ≡ matches hash_name (piece_of found.entry) }
+{
+    if !found.is(TokenKind::Punct) {
+        return false;
     }
+    match found.text {
+        [first, ..] => *first == b'#',
+        [] => false,
+    }
+}
 
-    /// Whether it is one of the marks that are unsupported.
-    fn is_unsupported_mark(self) -> bool
-        ensures { result ≡ among unsupported_marks (piece_of self.entry) }
-    {
-        self.is_mark(b"...") || self.is_mark(b"<") || self.is_mark(b"*")
-    }
+/// Whether it is one of the marks that are unsupported.
+fn is_unsupported_mark(found: Lexeme<'_>) -> bool
+    ensures { result ≡ among unsupported_marks (piece_of found.entry) }
+{
+    found.is_mark(b"...") || found.is_mark(b"<") || found.is_mark(b"*")
+}
 
-    /// Whether it is unsupported wherever it is refused.
-    fn is_unsupported(self) -> bool
-        ensures { result ≡ among unsupported_tokens (piece_of self.entry) }
-    {
-        if self.is_wide_integer() {
-            return true;
-        }
-        if self.is_unsupported_mark() {
-            return true;
-        }
-        if self.is_hash_name() {
-            return true;
-        }
-        self.is_word_of(&UNSUPPORTED_WORDS)
+/// Whether it is unsupported wherever it is refused.
+fn is_unsupported(found: Lexeme<'_>) -> bool
+    ensures { result ≡ among unsupported_tokens (piece_of found.entry) }
+{
+    if is_wide_integer(found) {
+        return true;
     }
+    if is_unsupported_mark(found) {
+        return true;
+    }
+    if is_hash_name(found) {
+        return true;
+    }
+    found.is_word_of(&UNSUPPORTED_WORDS)
 }
 
 /// The error where the tokens that are left are refused, named as unsupported or not.
@@ -149,7 +147,7 @@ pub fn refusal(alloc: Global, bytes: &[u8], rest: Source<'_>, named: bool) -> Sy
         return SyntaxError::Syntax { at };
     };
     let at = found.at;
-    if named || found.is_unsupported() {
+    if named || is_unsupported(found) {
         return match Sequence::from_slice(alloc, found.text) {
             Ok(what) => SyntaxError::Unsupported { at, what },
             Err(AllocError) => SyntaxError::Memory,

@@ -9,13 +9,13 @@ ghost use Rattle.ir_reader.specs.Refusing.{TellsOf};
 ghost use Rattle.ir_reader.specs.Reading.{IsReadAs, IsRefusedAt, Says, IsTree, IsRefusal};
 
 use crate::entities::module;
-use crate::numbering::numbered;
 use crate::refusing::refusal;
-use crate::source::Source;
-use crate::stop::Stop;
 use ir_lexer::token::Token;
 use ir_tree::module::IrTree;
 use plain_list::Sequence;
+use reader_numbering::numbering::numbered;
+use reader_words::source::Source;
+use reader_words::stop::Stop;
 use std::alloc::{AllocError, Global};
 use std::fmt;
 use thiserror::Error;

@@ -8,12 +8,12 @@ ghost use Rattle.ir_programs.specs.Texts.{places_where};
 ghost use Rattle.ir_programs.specs.Uses as spec;
 ghost use Rattle.ir_resolve.specs.Telling.{told_of};
 
-use crate::names::is_function;
 use crate::telling::noted_if;
 use ir_programs::{Cause, Refusal, function_callees};
 use ir_tree::module::{FunctionDefinition, IrTree};
 use ir_tree::types::Name;
 use std::alloc::{AllocError, Global};
+use tree_constants::is_function;
 
 fn unknown_told(told: Option<Refusal>, tree: &IrTree, names: &[Name]) -> Option<Refusal>
     ensures { result ≡ told_of UnknownFunction told (places_where (λ n. not (spec.is_function tree.now n.text)) names.now) }

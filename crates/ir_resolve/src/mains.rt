@@ -6,12 +6,12 @@ ghost use Rattle.ir_programs.specs.Answers as answers;
 ghost use Rattle.ir_programs.specs.Causes as spec;
 ghost use Rattle.ir_resolve.specs.Telling.{told_of};
 
-use crate::names::is_defined;
 use crate::telling::noted_if;
 use flat_ir::RegType;
 use ir_programs::{Cause, Refusal, is_same, register_type};
 use ir_tree::module::{FunctionDefinition, Header, IrTree, Parameter};
 use ir_tree::types::IrType;
+use tree_constants::is_defined;
 
 fn is_32(kind: RegType) -> bool
     ensures { result ≡ spec.is_32 kind }
@@ -80,5 +80,5 @@ pub fn mains_told(told: Option<Refusal>, tree: &IrTree) -> Option<Refusal>
 pub fn has_main(tree: &IrTree) -> bool
     ensures { result ≡ answers.has_main tree.now }
 {
-    is_defined(tree.functions.as_slice(), b"main")
+    is_defined(tree, b"main")
 }

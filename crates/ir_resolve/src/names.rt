@@ -1,10 +1,9 @@
 //! The names of globals and functions.
-ghost use Rattle.std.specs.Prelude.{◌≡◌, ◌++◌, ◌&&◌, ◌||◌, nat_lt, map, IfOk};
-ghost use Rattle.std.specs.List.{list_any};
+ghost use Rattle.std.specs.Prelude.{◌≡◌, ◌++◌, ◌&&◌, nat_lt, map, IfOk};
 ghost use Rattle.ir_tree.specs.Texts.{same};
 ghost use Rattle.ir_programs.specs.declared.refusals.Cause.TheVariants.{DuplicateName, ReservedName};
 ghost use Rattle.ir_programs.specs.Causes.{duplicate_globals, reserved_names};
-ghost use Rattle.ir_programs.specs.Texts.{among, texts, places_where};
+ghost use Rattle.ir_programs.specs.Texts.{places_where};
 ghost use Rattle.ir_programs.specs.Uses as spec;
 ghost use Rattle.ir_resolve.specs.Telling.{told_of};
 
@@ -12,8 +11,8 @@ use crate::telling::noted_if;
 use ir_programs::{Cause, Refusal, copied, is_same};
 use ir_tree::module::{FunctionDefinition, GlobalDefinition, IrTree};
 use ir_tree::types::Name;
-use prelude::{find, find_primitive};
 use std::alloc::{AllocError, Global};
+use tree_constants::is_reserved;
 
 fn push_globals(
     alloc: Global,
@@ -67,32 +66,6 @@ fn stands_before(names: &[Name], name: &Name) -> bool
         }
     }
     false
-}
-
-/// Whether a module may call the function without defining it.
-pub fn is_reserved(name: &[u8]) -> bool
-    ensures { result ≡ spec.is_reserved name.now }
-{
-    find(name).is_some() || find_primitive(name).is_some()
-}
-
-/// Whether a function of the module has this name.
-pub fn is_defined(functions: &[FunctionDefinition], name: &[u8]) -> bool
-    ensures { result ≡ among name.now (texts (map (λ f. f.header.name) functions.now)) }
-{
-    'each: for function in functions {
-        if is_same(function.header.name.text.as_slice(), name) {
-            return true;
-        }
-    }
-    false
-}
-
-/// Whether it is a function of the module or a known one.
-pub fn is_function(tree: &IrTree, name: &[u8]) -> bool
-    ensures { result ≡ spec.is_function tree.now name.now }
-{
-    is_defined(tree.functions.as_slice(), name) || is_reserved(name)
 }
 
 fn duplicates_told(told: Option<Refusal>, names: &[Name]) -> Option<Refusal>

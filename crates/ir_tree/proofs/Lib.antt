@@ -1,5 +1,5 @@
 mod Examples
-mod Rooms
+mod Levels
 pub mod Writing
 pub mod Spelled
 pub mod Lines

@@ -20,7 +20,7 @@ use Rattle.ir_tree.specs.declared.instructions.Operation.TheVariants as operatio
 use Rattle.ir_tree.specs.Texts.{integer_text, string_text}
 use Rattle.ir_tree.specs.Spelling.{opening, closing, others, separated, joined, type_level, type_tokens, const_index_tokens, gep_tokens, index_tokens, value_tokens, pointer_tokens, operation_tokens, constant_level, constant_tokens}
 use Rattle.ir_tree.specs.Pages.{Written, with_token, after, comma_before}
-use Rattle.ir_tree.proofs.Rooms.{fold_int, fold_ptr, fold_array, fold_struct, fold_named}
+use Rattle.ir_tree.proofs.Levels.{fold_int, fold_ptr, fold_array, fold_struct, fold_named}
 use Rattle.ir_tree.proofs.Writing.{after_append}
 
 -- ---- one level at a time

@@ -62,19 +62,3 @@ extent types t = extent_within (length types) types t
 -- sizes and places are told up to one more than an object may have
 abbrev pub most : ℕ
 most = 65537
-
-abbrev pub HasExtent : List TypeDefinition → IrType → Type 0
-HasExtent types t = (e : Extent) × (extent types t ≡ Some e)
-
-abbrev pub size_is : List TypeDefinition → IrType → ℕ → Type 0
-size_is types t size = (e : Extent) × (extent types t ≡ Some e) × (size ≡ min most e.size)
-
-abbrev pub align_is : List TypeDefinition → IrType → ℕ → Type 0
-align_is types t align = (e : Extent) × (extent types t ≡ Some e) × (align ≡ e.align)
-
-abbrev pub HasExtents : List TypeDefinition → List IrType → Type 0
-HasExtents types fields = (es : List Extent) × (each (map (extent types) fields) ≡ Some es)
-
--- field k of a struct with these fields stands at this place
-abbrev pub place_is : List TypeDefinition → List IrType → Bool → ℕ → ℕ → Type 0
-place_is types fields packed k place = (es : List Extent) × (each (map (extent types) fields) ≡ Some es) × (place ≡ min most (field_place packed 0 es k))

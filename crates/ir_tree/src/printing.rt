@@ -5,8 +5,6 @@ mod lines;
 mod operands;
 mod page;
 mod spelled;
-#[cfg(test)]
-mod tests;
 mod types;
 
 pub use lines::print;

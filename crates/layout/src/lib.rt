@@ -4,9 +4,6 @@
 ghost use Rattle.std.specs.Prelude.{◌≡◌, ◌+◌, ◌*◌, ◌<◌, ◌≤◌, ◌^◌};
 ghost use Rattle.layout.specs.Layout as spec;
 
-#[cfg(test)]
-mod tests;
-
 /// The next place at or behind `offset` that is a multiple of `align`, both in bytes.
 ///
 /// It is where a struct's field of that alignment stands if the fields before it end at `offset`

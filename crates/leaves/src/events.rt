@@ -27,9 +27,15 @@ pub enum EventKind<H: Home> {
 }
 
 /// A side that was taken, or a value that was loaded.
-#[derive(Drop)]
 pub struct Event<H: Home> {
     kind: EventKind<H>,
+}
+
+// All that lets one go is in this one place, and each end of a scope is a call.
+impl<H: Home> Drop for Event<H> {
+    fn drop(self) {
+        let Event { kind: _ } = self;
+    }
 }
 
 impl<H: Home> Model for Event<H> {

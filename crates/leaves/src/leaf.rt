@@ -50,9 +50,15 @@ pub enum LeafKind<H: Home> {
 }
 
 /// A leaf of an exploration.
-#[derive(Drop)]
 pub struct Leaf<H: Home> {
     kind: LeafKind<H>,
+}
+
+// All that lets one go is in this one place, and each end of a scope is a call.
+impl<H: Home> Drop for Leaf<H> {
+    fn drop(self) {
+        let Leaf { kind: _ } = self;
+    }
 }
 
 impl<H: Home> Model for Leaf<H> {

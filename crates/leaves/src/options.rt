@@ -1,7 +1,7 @@
 //! What is asked of an exploration, and why a leaf may stay open.
 
 /// The limits of an exploration, and what is told of it.
-#[derive(Clone, Copy, Debug, PartialEq, Eq)]
+#[derive(Clone, Copy)]
 pub struct Options {
     /// How many bytes the input has, at most 64.
     pub input: u8,
@@ -20,7 +20,7 @@ pub struct Options {
 }
 
 /// Why a leaf is open: no step was left; the solver's budget was spent; or a fork had more children than shares.
-#[derive(Clone, Copy, Debug, PartialEq, Eq)]
+#[derive(Clone, Copy)]
 pub enum Cause {
     Steps,
     Solver,

@@ -11,10 +11,16 @@ use term_store::Conditions;
 use terms::Term;
 
 /// A skipped call, and what it returned, where that is recovered.
-#[derive(Drop)]
 pub struct Recovered<H: Home> {
     call: CallId,
     value: SymValue<H>,
+}
+
+// All that lets one go is in this one place, and each end of a scope is a call.
+impl<H: Home> Drop for Recovered<H> {
+    fn drop(self) {
+        let Recovered { call: _, value: _ } = self;
+    }
 }
 
 impl<H: Home> Model for Recovered<H> {
@@ -55,13 +61,25 @@ impl<H: Home> Recovered<H> {
 
 /// A leaf's condition, the least input that meets it (none where the solver's budget was spent), its branches and loads, the
 /// recovered results of skipped calls, and the steps that it left.
-#[derive(Drop)]
 pub struct Told<H: Home> {
     condition: Conditions<H>,
     kept: Option<Sequence<u8>>,
     path: Sequence<Event<H>>,
     results: Sequence<Recovered<H>>,
     left: u64,
+}
+
+// All that lets one go is in this one place, and each end of a scope is a call.
+impl<H: Home> Drop for Told<H> {
+    fn drop(self) {
+        let Told {
+            condition: _,
+            kept: _,
+            path: _,
+            results: _,
+            left: _,
+        } = self;
+    }
 }
 
 impl<H: Home> Model for Told<H> {

@@ -1,7 +1,9 @@
-//! Tests of symbolic values and memory: worked logs, forks, and bytes that are cut and joined.
+//! Tests of symbolic values, conditions and memory: worked logs, forks, and bytes that are cut and joined.
 #![tactic(auto)]
 
 #[cfg(test)]
 mod of_bytes;
+#[cfg(test)]
+mod of_conditions;
 #[cfg(test)]
 mod of_logs;

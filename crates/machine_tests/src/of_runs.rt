@@ -3,7 +3,7 @@ use concrete_machine::{Outcome, RunEnd, run};
 use std::alloc::{AllocError, Global};
 use std::test::Fail;
 
-/// What came of the run of a text's program, if the text is accepted.
+/// What came of the run of a text's program, if the text is accepted: of a copy, which goes on alone.
 pub(crate) fn ended(
     alloc: Global,
     text: &str,
@@ -17,7 +17,9 @@ pub(crate) fn ended(
     let Some(program) = program_of(alloc, bytes)? else {
         return Ok(None);
     };
-    Ok(Some(run(alloc, &program, input, steps)?))
+    let copy = program.copy()?;
+    drop(program);
+    Ok(Some(run(alloc, &copy, input, steps)?))
 }
 
 // Whether a run ended so.

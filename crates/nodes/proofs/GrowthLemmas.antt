@@ -1,9 +1,9 @@
 -- Places of a table that has grown, and lists of places.
 use Rattle.std.proofs.Common.{◌≡◌, ◌<◌, ◌≤◌, ◌+◌, ℕ, zero, suc, List, [], ◌∷◌, ◌++◌, length, take, drop, get_or, replicate, refl, sym, ap, ap₂, ◌∙◌, subst, arith, length-append, append_assoc, append-nil}
 use Rattle.std.proofs.Common.{Result, Ok, Err}
-use Rattle.std.specs.Result.{IfOk}
+use Rattle.std.specs.Result.{IfOk, OnOk}
 use Rattle.std.proofs.Math.ListN.{drop_of_length-le}
-use Rattle.std.proofs.lemmas.List.{drop_more, length-map, map-append, take-map, drop-map}
+use Rattle.std.proofs.lemmas.List.{drop_more, length-map, length-replicate, map-append, take-map, drop-map}
 use Rattle.gates.specs.Bits.{Bit}
 use Rattle.nodes.specs.declared.table.Node.{Node}
 use Rattle.nodes.specs.Nodes.{bit_at, Grows}
@@ -132,3 +132,27 @@ lent old new ks seen is grows within = ap (bits_at new) is ∙ all_stay old new 
 pub made : {X Y E : Type 0} (r : Result X E) (f : X → Y) (a b : Y) → IfOk r (λ k. f k ≡ a) → a ≡ b → IfOk r (λ k. f k ≡ b)
 made (Ok k) f a b h e = h ∙ e
 made (Err x) f a b h e = tt
+
+-- what is lent of older places stands in the table
+pub lent_within : (old new : List Node) (ks seen : List ℕ) → seen ≡ ks → Grows old new → AreWithin old ks → AreWithin new seen
+lent_within old new ks seen is grows within = subst (AreWithin new) (sym is) (all_within old new grows ks within)
+
+-- a place of an older row stands in the table
+pub read_within : (old new : List Node) → Grows old new → (ks : List ℕ) → AreWithin old ks → (i : ℕ) → i < length ks → get_or ks i 0 < length new
+read_within old new grows ks within i low = still_within old new grows (get_or ks i 0) (within i low)
+
+-- one place, as often as asked
+pub repeated_within : (nodes : List Node) (n k : ℕ) (seen : List ℕ) → seen ≡ replicate n k → k < length nodes → AreWithin nodes seen
+repeated_within nodes n k seen is low = subst (AreWithin nodes) (sym is) (within_replicate nodes n k low)
+
+pub repeated_sized : (n k : ℕ) (seen : List ℕ) → seen ≡ replicate n k → length seen ≡ n
+repeated_sized n k seen is = ap length is ∙ length-replicate n k
+
+-- how the table has grown after a call at the end
+pub grown_on : {X E : Type 0} (r : Result X E) (a b c : List Node) → Grows a b → OnOk r (Grows b c) → OnOk r (Grows a c)
+grown_on (Ok k) a b c g h = grows_on a b c g h
+grown_on (Err x) a b c g h = tt
+
+pub grown_all : {X E : Type 0} (r : Result X E) (a b : List Node) → Grows a b → OnOk r (Grows a b)
+grown_all (Ok k) a b g = g
+grown_all (Err x) a b g = tt

@@ -3,6 +3,7 @@ ghost use Rattle.std.specs.Prelude.{◌≡◌, Some, IfOk};
 ghost use Rattle.flat_ir.specs.Steps as steps;
 ghost use Rattle.terms.specs.Tree.{width_of};
 ghost use Rattle.sym_states.specs.Attempts as attempts;
+ghost use Rattle.sym_states.specs.States.{gives};
 ghost use Rattle.sym_states.specs.Terms as spec;
 ghost use Rattle.state_sides.specs.Views.{context_of, state_seen, step_seen};
 
@@ -17,6 +18,25 @@ use std::alloc::AllocError;
 use sym_bytes::{Pointer, SymValue};
 use terms::{Term, Terms};
 use write_log::{Index, SymMemory};
+
+/// The node gives a value to its register.
+///
+/// # Errors
+///
+/// No memory, or a count past its bound.
+pub(crate) fn gives_value<H: Home, K: Index, D: Decide>(
+    machine: &Machine<'_, H, D>,
+    register: RegId,
+    value: SymValue<H>,
+    state: State<H, K>,
+) -> Result<Step<H, K>, AllocError>
+    ensures { IfOk result (λ step. step_seen step ≡ gives (context_of machine.now.scope) (Some register) (Some value) (state_seen state)) }
+{
+    match machine.done(Some(register), Some(value), state) {
+        Ok(next) => Ok(Step::Goes(next)),
+        Err(error) => Err(error),
+    }
+}
 
 /// The node gives a term to its register.
 ///
@@ -35,6 +55,21 @@ pub fn gives_term<H: Home, K: SymMemory, D: Decide>(
     Ok(Step::Goes(machine.done(Some(register), Some(value), state)?))
 }
 
+// A comparison of two operands of a state.
+fn compared<H: Home, K: Index>(
+    terms: &Terms<H>,
+    state: &State<H, K>,
+    pred: Pred,
+    a: &Operand,
+    b: &Operand,
+) -> Result<Term<H>, AllocError>
+    ensures { IfOk result (λ t. t ≡ spec.compared_values pred (spec.value_in (state_seen state.now) a.now) (spec.value_in (state_seen state.now) b.now)) }
+{
+    let x = value(terms, state, a)?;
+    let y = value(terms, state, b)?;
+    compared_values(terms, pred, &x, &y)
+}
+
 /// A comparison of two operands.
 ///
 /// # Errors
@@ -50,10 +85,13 @@ pub fn compares<H: Home, K: SymMemory, D: Decide>(
 ) -> Result<Step<H, K>, AllocError>
     ensures { IfOk result (λ step. step_seen step ≡ attempts.compares (context_of machine.now.scope) pred a.now b.now register (state_seen state)) }
 {
-    let x = value(machine.terms, &state, a)?;
-    let y = value(machine.terms, &state, b)?;
-    let holds = compared_values(machine.terms, pred, &x, &y)?;
-    gives_term(machine, register, holds, state)
+    match compared(machine.terms, &state, pred, a, b) {
+        Ok(holds) => gives_term(machine, register, holds, state),
+        Err(error) => {
+            drop(state);
+            Err(error)
+        }
+    }
 }
 
 // How many bits a register of the type has; a pointer has those of an address.
@@ -64,6 +102,20 @@ fn width_of_type(of: RegType) -> u8
         RegType::Int(width) => width,
         RegType::Ptr => 64,
     }
+}
+
+// An operand of a state in the width of a type.
+fn cast_operand<H: Home, K: Index>(
+    terms: &Terms<H>,
+    state: &State<H, K>,
+    op: CastOp,
+    a: &Operand,
+    of: RegType,
+) -> Result<Term<H>, AllocError>
+    ensures { IfOk result (λ t. t ≡ spec.cast_to op (steps.width_of of) (spec.number_in (state_seen state.now) a.now)) }
+{
+    let x = number(terms, state, a)?;
+    cast_to(terms, op, width_of_type(of), &x)
 }
 
 /// An operand in the width of the node's register.
@@ -80,10 +132,14 @@ pub fn casts<H: Home, K: SymMemory, D: Decide>(
 ) -> Result<Step<H, K>, AllocError>
     ensures { IfOk result (λ step. step_seen step ≡ attempts.casts (context_of machine.now.scope) op a.now register (state_seen state)) }
 {
-    let x = number(machine.terms, &state, a)?;
     let of = type_at(machine.scope.program, state.frame.func(), register);
-    let cast = cast_to(machine.terms, op, width_of_type(of), &x)?;
-    gives_term(machine, register, cast, state)
+    match cast_operand(machine.terms, &state, op, a, of) {
+        Ok(cast) => gives_term(machine, register, cast, state),
+        Err(error) => {
+            drop(state);
+            Err(error)
+        }
+    }
 }
 
 // An offset moved by a part.

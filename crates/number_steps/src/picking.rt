@@ -1,15 +1,18 @@
 //! Values that a test chooses, and objects that a node makes.
-ghost use Rattle.std.specs.Prelude.{◌≡◌, ◌≤◌, length, IfOk};
+ghost use Rattle.std.specs.Prelude.{◌≡◌, ◌≤◌, length, IfOk, OnOk};
 ghost use Rattle.terms.specs.Tree.{width_of};
 ghost use Rattle.leaves.specs.Fitting.{IsTerm};
+ghost use Rattle.sym_bytes.specs.Building as building;
+ghost use Rattle.sym_bytes.specs.Entry as entry;
 ghost use Rattle.sym_states.specs.Attempts as attempts;
 ghost use Rattle.sym_states.specs.Sides as sides;
+ghost use Rattle.sym_states.specs.States as states;
 ghost use Rattle.sym_states.specs.Terms as values;
 ghost use Rattle.state_laws.specs.Kept.{StateFitsAt, OperandFits};
 ghost use Rattle.state_sides.specs.Offers.{tested_seen};
 ghost use Rattle.state_sides.specs.Views.{context_of, state_seen, step_seen};
 
-use crate::making::gives_term;
+use crate::making::{gives_term, gives_value};
 use crate::operands::{number, value};
 use decider::Decide;
 use flat_ir::{Operand, RegId};
@@ -18,7 +21,7 @@ use places::Home;
 use state_sides::{Machine, State, Step, Tested};
 use std::alloc::AllocError;
 use sym_bytes::{Entry, SymValue, ValueKind};
-use terms::Term;
+use terms::{Term, Terms};
 use write_log::SymMemory;
 
 /// Each side of a test gives its value.
@@ -36,9 +39,19 @@ pub fn picks<H: Home, K: SymMemory, D: Decide>(
     ensures { IfOk result (λ step. step_seen step ≡ attempts.picks (context_of machine.now.scope) register a b (tested_seen tested)) }
 {
     match tested {
-        Tested::Good(state) => Ok(Step::Goes(machine.done(Some(register), Some(a), state)?)),
-        Tested::Bad(state) => Ok(Step::Goes(machine.done(Some(register), Some(b), state)?)),
-        Tested::Answered(step) => Ok(step),
+        Tested::Good(state) => {
+            drop(b);
+            gives_value(machine, register, a, state)
+        }
+        Tested::Bad(state) => {
+            drop(a);
+            gives_value(machine, register, b, state)
+        }
+        Tested::Answered(step) => {
+            drop(a);
+            drop(b);
+            Ok(step)
+        }
     }
 }
 
@@ -127,6 +140,22 @@ pub fn chooses<H: Home, K: SymMemory, D: Decide>(
     selects(machine, register, &holds, x, y, state)
 }
 
+// Makes the object of the state's node, of a size of 64 bits, and gives the pointer to its start.
+fn made_in<H: Home, K: SymMemory>(
+    terms: &Terms<H>,
+    size: Term<H>,
+    state: &mut State<H, K>,
+) -> Result<SymValue<H>, AllocError>
+    requires { width_of size ≡ 64 }
+    ensures value { IfOk result (λ v. v ≡ building.pointer_to (states.made_now state.old.frame) 0) }
+    ensures made { OnOk result (state_seen state.new ≡ states.appended (entry.Alloc (states.made_now state.old.frame) size) (state_seen state.old)) }
+{
+    let pointer = pointer_to(terms, state.frame.made_now()?, 0)?;
+    let made = state.frame.made_now()?;
+    K::append(&mut state.memory, Entry::alloc(made, size))?;
+    Ok(pointer)
+}
+
 /// The node makes an object of a size of 64 bits, and gives the pointer to its start.
 ///
 /// # Errors
@@ -141,10 +170,13 @@ pub fn makes<H: Home, K: SymMemory, D: Decide>(
     requires { width_of size ≡ 64 }
     ensures { IfOk result (λ step. step_seen step ≡ attempts.makes (context_of machine.now.scope) register size (state_seen state)) }
 {
-    let pointer = pointer_to(machine.terms, state.frame.made_now()?, 0)?;
-    let made = state.frame.made_now()?;
-    K::append(&mut state.memory, Entry::alloc(made, size))?;
-    Ok(Step::Goes(machine.done(register, Some(pointer), state)?))
+    match made_in(machine.terms, size, &mut state) {
+        Ok(pointer) => Ok(Step::Goes(machine.done(register, Some(pointer), state)?)),
+        Err(error) => {
+            drop(state);
+            Err(error)
+        }
+    }
 }
 
 /// A size that was tested for being at most 65536 bytes: it makes an object, and a greater one gives null.

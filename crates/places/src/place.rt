@@ -179,11 +179,21 @@ impl<E, H: Home> Places<E, H> {
 }
 
 /// A number of the table, given once. Contracts see it with the value that it names.
-#[derive(Drop)]
 pub struct Place<E, H: Home> {
     number: u64,
     seen: Seen<E, u64, Law>,
     of: PhantomData<H>,
+}
+
+// All that lets one go is in this one place, and each end of a scope is a call.
+impl<E, H: Home> Drop for Place<E, H> {
+    fn drop(self) {
+        let Place {
+            number: _,
+            seen: _,
+            of: _,
+        } = self;
+    }
 }
 
 impl<E, H: Home> Model for Place<E, H> {

@@ -4,9 +4,9 @@
 ghost use Rattle.std.specs.Prelude.{◌≡◌, ◌↔◌, ◌<◌, [], ◌∷◌, ◌++◌, length, slice_get, slice_set, IsTrue, IfOk, OnOk, OnErr, OnSome, MatchOption};
 ghost use Rattle.std.specs.Option.{option_copied};
 
-#[cfg(test)]
-mod tests;
+mod shared;
 
+pub use shared::Shared;
 use std::alloc::{AllocError, Global};
 use std::marker::Model;
 

@@ -6,4 +6,3 @@ pub mod Complete
 pub mod Containing
 pub mod RunsWithin
 pub mod Examples
-pub mod Samples

@@ -2,7 +2,7 @@
 use flat_ir::{FuncId, RegId, Site};
 
 /// What may hold pointers.
-#[derive(Clone, Copy, Debug, PartialEq, Eq)]
+#[derive(Clone, Copy)]
 pub enum Holder {
     /// A register of a function.
     Register(FuncId, RegId),
@@ -17,7 +17,7 @@ pub enum Holder {
 }
 
 /// What a node, or a byte that a global starts with, asks of the sites that holders may point to.
-#[derive(Clone, Copy, Debug, PartialEq, Eq)]
+#[derive(Clone, Copy)]
 pub enum Inclusion {
     /// `to` may point to the site's objects.
     Names { to: Holder, site: Site },

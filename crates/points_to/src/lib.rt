@@ -8,8 +8,6 @@ mod laws;
 mod rows;
 mod sets;
 mod tables;
-#[cfg(test)]
-mod tests;
 
 pub use holders::{Holder, Inclusion};
 pub use laws::{runs_stay_within, steps_stay_within};

@@ -14,7 +14,7 @@ use plain_list::Sequence;
 use std::alloc::{AllocError, Global};
 
 /// Where a holder's row stands.
-#[derive(Clone, Copy, Debug)]
+#[derive(Clone, Copy)]
 struct Place {
     kind: usize,
     part: usize,

@@ -7,8 +7,6 @@ mod functions;
 mod names;
 mod primitives;
 mod shapes;
-#[cfg(test)]
-mod tests;
 
 pub use functions::prelude_func;
 pub use names::find;

@@ -13,15 +13,12 @@ ghost use Rattle.refutation.specs.declared.Checked.{Checked};
 ghost use Rattle.refutation.specs.declared.Checked.TheVariants.{Yes};
 ghost use Rattle.refutation.specs.Checks.{IsBlank, IsChecked, IsTautology, Negates};
 
-#[cfg(test)]
-mod tests;
-
 use cnf::{Clause, Formula, Lit, Pass, pass_once, unassigned};
 use std::alloc::{AllocError, Global};
 
 /// What a check found: the log refutes the formula, or `step` is the first clause of the log that
 /// does not follow, or the length of a log whose clauses all follow and of which none is empty.
-#[derive(Clone, Copy, Debug, PartialEq, Eq)]
+#[derive(Clone, Copy)]
 pub enum Checked {
     Yes,
     No { step: usize },

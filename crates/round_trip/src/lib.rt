@@ -1,10 +1,7 @@
-//! What is printed is read again. Its one function states it of every text; the tests print and read texts.
+//! What is printed is read again. Its one function states it of every text.
 #![tactic(auto)]
 
 ghost use Rattle.round_trip.specs.ReadAgain.{IsReadAgain};
-
-#[cfg(test)]
-mod tests;
 
 /// A tree that was read is read again from what it is printed as, without regard to places.
 pub fn a_printed_tree_is_read_again()

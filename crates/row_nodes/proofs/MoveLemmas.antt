@@ -1,12 +1,12 @@
 -- Constants, moves, products, shifts and divisions of rows.
-use Rattle.std.proofs.Common.{◌≡◌, ◌<◌, ◌≤◌, ◌+◌, ◌-◌, ◌*◌, ◌/◌, ◌%◌, ℕ, zero, suc, false, ltb, eqb, List, [], ◌∷◌, ◌++◌, length, take, drop, get_or, replicate, refl, sym, ap, ap₂, ◌∙◌, arith, length-append}
+use Rattle.std.proofs.Common.{◌≡◌, ◌<◌, ◌≤◌, ◌+◌, ◌-◌, ◌*◌, ◌/◌, ◌%◌, ℕ, zero, suc, false, ltb, eqb, List, [], ◌∷◌, ◌++◌, length, take, drop, get_or, replicate, refl, sym, ap, ap₂, ◌∙◌, arith, length-append, length-drop}
 use Rattle.std.proofs.lemmas.Bool.{cond-true, cond-false, lt-ltb, le-ltb}
-use Rattle.std.proofs.lemmas.List.{length-take-le}
+use Rattle.std.proofs.lemmas.List.{length-take-le, length-replicate}
 use Rattle.gates.specs.Bits.{Bit, constant, fold_not, fold_and}
 use Rattle.nodes.specs.declared.table.Node.{Node}
 use Rattle.nodes.specs.Nodes.{bit_at, Grows}
 use Rattle.nodes.specs.Names.{bits_at, AreWithin}
-use Rattle.nodes.proofs.GrowthLemmas.{stays, within_take, within_append, within_replicate, bits_at-more, bits_at-past, bits_at-take, bits_at-drop, bits_at-append, length-bits_at}
+use Rattle.nodes.proofs.GrowthLemmas.{stays, within_take, within_drop, within_append, within_replicate, bits_at-more, bits_at-past, bits_at-take, bits_at-drop, bits_at-append, length-bits_at}
 use Rattle.rows.specs.Rows.{fills, constant_bits, each, added, masked, guarded, multiplied, top, moved_up, moved_down, moved_by, chosen, less, subtracted, Division, division, next_division}
 use Rattle.row_nodes.specs.Divisions.{trial}
 use Rattle.row_nodes.specs.declared.shifts.Move.{Move}
@@ -65,6 +65,16 @@ down_bits nodes fill by ks =
 pub moved_bits : (nodes : List Node) (way : Move) (by : ℕ) (ks : List ℕ) → bits_at nodes (places_moved way by ks) ≡ bits_moved nodes way by (bits_at nodes ks)
 moved_bits nodes (Up fill) by ks = up_bits nodes fill by ks
 moved_bits nodes (Down fill) by ks = down_bits nodes fill by ks
+
+pub moved_sized : (way : Move) (by : ℕ) (ks : List ℕ) → by ≤ length ks → length (places_moved way by ks) ≡ length ks
+moved_sized (Up fill) by ks low = up_sized fill by ks
+moved_sized (Down fill) by ks low =
+    length-take-le (length ks) (drop by ks ++ replicate by fill) (omega (arith, length-append (drop by ks) (replicate by fill), length-drop by ks, length-replicate by fill))
+
+pub moved_within : (nodes : List Node) (way : Move) (by : ℕ) (ks : List ℕ) → FillsWithin nodes way → AreWithin nodes ks → AreWithin nodes (places_moved way by ks)
+moved_within nodes (Up fill) by ks h all = up_within nodes fill by ks h all
+moved_within nodes (Down fill) by ks h all =
+    within_take nodes (length ks) (drop by ks ++ replicate by fill) (within_append nodes (drop by ks) (replicate by fill) (within_drop nodes by ks all) (within_replicate nodes by fill h))
 
 pub move_stays : (old new : List Node) → Grows old new → (way : Move) → FillsWithin old way → bits_moved new way ≡ bits_moved old way
 move_stays old new grows (Up fill) h = ap (λ b by xs. take (length xs) (fills by b ++ xs)) (stays old new grows fill h)

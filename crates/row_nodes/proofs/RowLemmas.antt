@@ -5,8 +5,8 @@ use Rattle.nodes.specs.declared.table.Node.{Node}
 use Rattle.nodes.specs.Nodes.{bit_at, Grows}
 use Rattle.nodes.specs.Names.{bits_at, AreWithin}
 use Rattle.std.proofs.lemmas.List.{get_or_append_left, get_or_push}
-use Rattle.nodes.proofs.WalkLemmas.{bits_at-push}
-use Rattle.nodes.proofs.GrowthLemmas.{stays, all_stay, bits_at-more, bits_at-past, bits_at-cons, bits_at-none}
+use Rattle.nodes.proofs.WalkLemmas.{bits_at-push, within_more}
+use Rattle.nodes.proofs.GrowthLemmas.{stays, still_within, all_within, all_stay, bits_at-more, bits_at-past, bits_at-cons, bits_at-none}
 use Rattle.rows.specs.Rows.{fold_or, fold_mux, fills, each, inverted, added, below, alike, top_turned}
 use Rattle.row_nodes.specs.declared.pairs.Gate.{Gate}
 use Rattle.row_nodes.specs.declared.pairs.Gate.TheVariants.{And, Or, Xor, Choice}
@@ -68,6 +68,12 @@ folded_stays old new grows Or h = refl
 folded_stays old new grows Xor h = refl
 folded_stays old new grows (Choice test) h = ap fold_mux (stays old new grows test h)
 
+pub gate_within : (old new : List Node) → Grows old new → (gate : Gate) → IsWithin old gate → IsWithin new gate
+gate_within old new grows And h = h
+gate_within old new grows Or h = h
+gate_within old new grows Xor h = h
+gate_within old new grows (Choice test) h = still_within old new grows test h
+
 -- the highest bit
 
 top_turned-push : (bs : List Bit) (b : Bit) → top_turned (bs ++ b ∷ []) ≡ bs ++ fold_not b ∷ []
@@ -87,6 +93,14 @@ last_within nodes front k h =
 pub turned_top : (old new : List Node) (xs front row : List ℕ) (k t : ℕ) → Grows old new → AreWithin old xs → xs ≡ front ++ k ∷ [] → row ≡ front ++ t ∷ [] → bit_at new t ≡ fold_not (bit_at old k) → bits_at new row ≡ top_turned (bits_at old xs)
 turned_top old new xs front row k t grows within is made_of turned =
     ap (bits_at new) made_of ∙ bits_at-push new front t ∙ ap₂ (λ bs b. bs ++ b ∷ []) (all_stay old new grows front (front_within old front k (subst (AreWithin old) is within))) turned ∙ sym (top_turned-push (bits_at old front) (bit_at old k)) ∙ ap top_turned (sym (bits_at-push old front k) ∙ ap (bits_at old) (sym is))
+
+pub turned_within : (old new : List Node) (xs front row : List ℕ) (k t : ℕ) → Grows old new → AreWithin old xs → xs ≡ front ++ k ∷ [] → row ≡ front ++ t ∷ [] → t < length new → AreWithin new row
+turned_within old new xs front row k t grows within is made_of low =
+    subst (AreWithin new) (sym made_of) (within_more new front t (all_within old new grows front (front_within old front k (subst (AreWithin old) is within))) low)
+
+pub turned_sized : (xs front row : List ℕ) (k t : ℕ) → xs ≡ front ++ k ∷ [] → row ≡ front ++ t ∷ [] → length row ≡ length xs
+turned_sized xs front row k t is made_of =
+    ap length made_of ∙ length-append front (t ∷ []) ∙ sym (length-append front (k ∷ [])) ∙ sym (ap length is)
 
 pub turned_none : (nodes : List Node) (xs row : List ℕ) → xs ≡ [] → row ≡ [] → bits_at nodes row ≡ top_turned (bits_at nodes xs)
 unfolding top_turned

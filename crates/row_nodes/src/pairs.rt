@@ -9,7 +9,7 @@ use nodes::Table;
 use std::alloc::{AllocError, Global};
 
 /// What is made of two bits.
-#[derive(Clone, Copy, Debug, PartialEq, Eq)]
+#[derive(Clone, Copy)]
 pub enum Gate {
     And,
     Or,

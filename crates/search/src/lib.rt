@@ -13,9 +13,6 @@ ghost use Rattle.search.specs.Tree.{conflicting, tree, negation_of};
 ghost use Rattle.search.specs.Verdict.{is_spent, verdict, verdict_of};
 ghost use Rattle.search.specs.Walks.{ClosesTo, IsClosure, IsReached, IsWalkOf, LogsWhere};
 
-#[cfg(test)]
-mod tests;
-
 use cnf::{Clause, Formula, Lit, Pass, pass_once, unassigned};
 use std::alloc::{AllocError, Global};
 

@@ -10,4 +10,3 @@ pub mod Closing
 pub mod Keeping
 pub mod Settling
 pub mod Simulating
-pub mod Sample

@@ -11,7 +11,5 @@ mod nodes;
 mod places;
 mod reaching;
 mod slicing;
-#[cfg(test)]
-mod tests;
 
 pub use slicing::slice;

@@ -1,9 +1,12 @@
 //! What follows from what by the nodes of a program.
 ghost use Rattle.std.specs.Prelude.{◌≡◌, ◌≤◌, ◌++◌, ◌^◌, length, OnOk, IfOk};
 ghost use Rattle.std.specs.List.{flat_map};
-ghost use Rattle.flat_ir.specs.Whole.{IsWhole};
+ghost use Rattle.flat_ir.specs.Whole.{IsWhole, results_of};
+ghost use Rattle.flow.specs.Flow.{reads};
 ghost use Rattle.mod_ref.specs.Changes.{is_malloc_site as is_made};
 ghost use Rattle.slicer.specs.Links as spec;
+ghost use Rattle.slicer.specs.declared.marks.Mark.TheVariants as mark;
+ghost use Rattle.slices.specs.Nodes.{read_through as reads_at, used_alive as needs_alive};
 
 use crate::marks::{Link, Mark};
 use crate::nodes::{call_result, is_return, read_through, reads_input, used_alive};
@@ -200,6 +203,14 @@ fn changes_of(
     Ok(marks)
 }
 
+/// The registers that a node sets.
+fn set_by(alloc: Global, func: FuncId, node: &Node) -> Result<Sequence<Mark>, AllocError>
+    ensures { IfOk result (λ marks. marks ≡ spec.wanted_of func (results_of node.now)) }
+{
+    let set = results(alloc, node)?;
+    wanted_of(alloc, func, set.as_slice())
+}
+
 /// What a node is retained for.
 fn causes_of(
     alloc: Global,
@@ -213,10 +224,44 @@ fn causes_of(
 {
     let mut marks = changes_of(alloc, program, sets, func, at, node)?;
     marks.append(holds_if(alloc, callee(node))?)?;
-    let set = results(alloc, node)?;
-    marks.append(wanted_of(alloc, func, set.as_slice())?)?;
+    marks.append(set_by(alloc, func, node)?)?;
     marks.append(returns_if(alloc, func, is_return(node))?)?;
     Ok(marks)
+}
+
+/// The registers that a node reads.
+fn read_by(alloc: Global, func: FuncId, node: &Node) -> Result<Sequence<Mark>, AllocError>
+    ensures { IfOk result (λ marks. marks ≡ spec.wanted_of func (reads node.now)) }
+{
+    let read = registers_read(alloc, node)?;
+    wanted_of(alloc, func, read.as_slice())
+}
+
+/// The cells that a node reads.
+fn cells_read(
+    alloc: Global,
+    sets: &PointsTo,
+    func: FuncId,
+    node: &Node,
+) -> Result<Sequence<Mark>, AllocError>
+    ensures { IfOk result (λ marks. marks ≡ spec.cells_of (spec.sites_if sets.now func (reads_at node.now))) }
+{
+    let cells = sites_if(alloc, sets, func, read_through(node))?;
+    cells_of(alloc, cells.as_slice())
+}
+
+/// The lives of what a node accesses or frees.
+fn lives_needed(
+    alloc: Global,
+    sets: &PointsTo,
+    func: FuncId,
+    node: &Node,
+) -> Result<Sequence<Mark>, AllocError>
+    ensures { IfOk result (λ marks. marks ≡ spec.lives_of (flat_map (spec.sites_of sets.now func) (needs_alive node.now))) }
+{
+    let pointers = used_alive(alloc, node)?;
+    let alive = sites_of_all(alloc, sets, func, pointers.as_slice())?;
+    lives_of(alloc, alive.as_slice())
 }
 
 /// What follows if a node is retained.
@@ -229,13 +274,9 @@ fn effects_of(
     ensures { IfOk result (λ marks. marks ≡ spec.effects_of sets.now func node.now) }
 {
     let mut marks = Sequence::of_one(alloc, Mark::Holds(func))?;
-    let read = registers_read(alloc, node)?;
-    marks.append(wanted_of(alloc, func, read.as_slice())?)?;
-    let cells = sites_if(alloc, sets, func, read_through(node))?;
-    marks.append(cells_of(alloc, cells.as_slice())?)?;
-    let pointers = used_alive(alloc, node)?;
-    let alive = sites_of_all(alloc, sets, func, pointers.as_slice())?;
-    marks.append(lives_of(alloc, alive.as_slice())?)?;
+    marks.append(read_by(alloc, func, node)?)?;
+    marks.append(cells_read(alloc, sets, func, node)?)?;
+    marks.append(lives_needed(alloc, sets, func, node)?)?;
     marks.append(input_if(alloc, reads_input(node))?)?;
     Ok(marks)
 }
@@ -281,6 +322,35 @@ fn all_to(alloc: Global, to: Mark, marks: &[Mark]) -> Result<Sequence<Link>, All
     Ok(Sequence::from_vec(links))
 }
 
+/// What follows from that a node is retained.
+fn to_effects(
+    alloc: Global,
+    sets: &PointsTo,
+    func: FuncId,
+    at: NodeId,
+    node: &Node,
+) -> Result<Sequence<Link>, AllocError>
+    ensures { IfOk result (λ links. links ≡ spec.all_from (mark.Kept func at) (spec.effects_of sets.now func node.now)) }
+{
+    let effects = effects_of(alloc, sets, func, node)?;
+    all_from(alloc, Mark::Kept(func, at), effects.as_slice())
+}
+
+/// What a node's being retained follows from.
+fn from_causes(
+    alloc: Global,
+    program: &ProgramData,
+    sets: &PointsTo,
+    func: FuncId,
+    at: NodeId,
+    node: &Node,
+) -> Result<Sequence<Link>, AllocError>
+    ensures { IfOk result (λ links. links ≡ spec.all_to (mark.Kept func at) (spec.causes_of program.now sets.now func at node.now)) }
+{
+    let causes = causes_of(alloc, program, sets, func, at, node)?;
+    all_to(alloc, Mark::Kept(func, at), causes.as_slice())
+}
+
 /// What follows from what by one node.
 fn links_of(
     alloc: Global,
@@ -293,10 +363,8 @@ fn links_of(
     ensures { IfOk result (λ links. links ≡ spec.links_of program.now sets.now func at node.now) }
 {
     let mut links = received(alloc, func, callee(node), call_result(node))?;
-    let effects = effects_of(alloc, sets, func, node)?;
-    links.append(all_from(alloc, Mark::Kept(func, at), effects.as_slice())?)?;
-    let causes = causes_of(alloc, program, sets, func, at, node)?;
-    links.append(all_to(alloc, Mark::Kept(func, at), causes.as_slice())?)?;
+    links.append(to_effects(alloc, sets, func, at, node)?)?;
+    links.append(from_causes(alloc, program, sets, func, at, node)?)?;
     Ok(links)
 }
 

@@ -3,7 +3,7 @@ use flat_ir::{FuncId, Location, NodeId, RegId};
 
 /// A fact of a slice: a node is retained, a location is needed, a retained node reads a register, a function's returns are retained,
 /// a function has a retained node.
-#[derive(Clone, Copy, Debug)]
+#[derive(Clone, Copy)]
 pub enum Mark {
     Kept(FuncId, NodeId),
     Needed(Location),
@@ -13,7 +13,7 @@ pub enum Mark {
 }
 
 /// The second fact follows from the first.
-#[derive(Clone, Copy, Debug)]
+#[derive(Clone, Copy)]
 pub struct Link {
     pub from: Mark,
     pub to: Mark,

@@ -17,7 +17,7 @@ use plain_list::Sequence;
 use std::alloc::{AllocError, Global};
 
 /// Where a fact stands: its kind, its row, and which of how many it is there.
-#[derive(Clone, Copy, Debug)]
+#[derive(Clone, Copy)]
 pub struct Spot {
     pub kind: usize,
     pub row: usize,

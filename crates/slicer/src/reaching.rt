@@ -7,7 +7,7 @@ use least::{Rules, add, least_set};
 use std::alloc::{AllocError, Global};
 
 /// The second number follows from the first.
-#[derive(Clone, Copy, Debug)]
+#[derive(Clone, Copy)]
 pub struct Arrow {
     pub from: usize,
     pub to: usize,

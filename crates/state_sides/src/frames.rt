@@ -1,5 +1,5 @@
 //! Where frames stand and go on.
-ghost use Rattle.std.specs.Prelude.{◌≡◌, ◌∷◌, ◌++◌, [], map, slice_get, unwrap_or, IfOk};
+ghost use Rattle.std.specs.Prelude.{◌≡◌, ◌∷◌, ◌++◌, [], map, slice_get, unwrap_or, IfOk, OnOk};
 ghost use Rattle.std.specs.Option.{option_copied};
 ghost use Rattle.flat_ir.specs.Whole.{successors_of};
 ghost use Rattle.sym_states.specs.Attempts as attempts;
@@ -146,12 +146,12 @@ impl<'a, H: Home, D: Decide> Machine<'a, H, D> {
         }
     }
 
-    /// The frame at successor k of its node.
-    pub fn moved(&self, k: usize, frame: Frame<H>) -> Frame<H>
-        ensures { result ≡ states.moved (context_of self.now.scope) k frame }
+    /// Moves a frame to successor k of its node.
+    pub fn moved(&self, k: usize, frame: &mut Frame<H>)
+        ensures { frame.new ≡ states.moved (context_of self.now.scope) k frame.old }
     {
-        let place = self.place_after(k, &frame);
-        frame.at(place)
+        let place = self.place_after(k, frame);
+        frame.at(place);
     }
 
     /// Where a function begins.
@@ -161,6 +161,28 @@ impl<'a, H: Home, D: Decide> Machine<'a, H, D> {
         match self.scope.residual {
             None => Place::At(NodeId(0)),
             Some(residual) => place_in(NodeId(0), start_in(residual, func)),
+        }
+    }
+
+    // Counts the frame's node, sets its register, and goes to its first successor.
+    fn passes(
+        &self,
+        register: Option<RegId>,
+        value: Option<SymValue<H>>,
+        frame: &mut Frame<H>,
+    ) -> Result<(), AllocError>
+        ensures { OnOk result (frame.new ≡ states.moved (context_of self.now.scope) 0 (states.set_if register value (states.counted frame.old))) }
+    {
+        match frame.counted() {
+            Ok(()) => {
+                frame.set_if(register, value);
+                self.moved(0, frame);
+                Ok(())
+            }
+            Err(error) => {
+                drop(value);
+                Err(error)
+            }
         }
     }
 
@@ -177,9 +199,24 @@ impl<'a, H: Home, D: Decide> Machine<'a, H, D> {
     ) -> Result<State<H, K>, AllocError>
         ensures { IfOk result (λ s. states.Goes (state_seen s) ≡ states.gives (context_of self.now.scope) register value (state_seen state)) }
     {
-        let frame = state.frame.counted()?;
-        state.frame = self.moved(0, frame.set_if(register, value));
-        Ok(state)
+        match self.passes(register, value, &mut state.frame) {
+            Ok(()) => Ok(state),
+            Err(error) => {
+                drop(state);
+                Err(error)
+            }
+        }
+    }
+
+    // Shows a side of the state's node, and takes it.
+    fn shows_side<K: Index>(&self, side: usize, state: &mut State<H, K>) -> Result<(), AllocError>
+        ensures { OnOk result (state_seen state.new ≡ attempts.took (context_of self.now.scope) side (state_seen state.old)) }
+    {
+        let event = Event::branch(state.frame.func(), state.frame.place().node(), side);
+        state.path = state.path.with(self.terms.alloc(), event)?;
+        state.frame.counted()?;
+        self.moved(side, &mut state.frame);
+        Ok(())
     }
 
     /// The state with a side of its node taken and shown.
@@ -194,9 +231,12 @@ impl<'a, H: Home, D: Decide> Machine<'a, H, D> {
     ) -> Result<State<H, K>, AllocError>
         ensures { IfOk result (λ s. state_seen s ≡ attempts.took (context_of self.now.scope) side (state_seen state)) }
     {
-        let event = Event::branch(state.frame.func(), state.frame.place().node(), side);
-        state.path = state.path.with(self.terms.alloc(), event)?;
-        state.frame = self.moved(side, state.frame.counted()?);
-        Ok(state)
+        match self.shows_side(side, &mut state) {
+            Ok(()) => Ok(state),
+            Err(error) => {
+                drop(state);
+                Err(error)
+            }
+        }
     }
 }

@@ -82,11 +82,12 @@ impl<H: Home> Path<H> {
     }
 
     /// The events with a newer one.
-    pub fn with(self, alloc: Global, event: Event<H>) -> Result<Path<H>, AllocError>
-        ensures { IfOk result (λ p. p ≡ self ++ event ∷ []) }
+    pub fn with(&self, alloc: Global, event: Event<H>) -> Result<Path<H>, AllocError>
+        ensures { IfOk result (λ p. p ≡ self.now ++ event ∷ []) }
     {
+        let older = self.copy()?;
         Ok(Path {
-            link: Arc::new(alloc, Link::Behind(self, event))?,
+            link: Arc::new(alloc, Link::Behind(older, event))?,
         })
     }
 

@@ -14,7 +14,6 @@ use write_log::{Index, Memory};
 /// The newest frame and those that called it; memory; the skipped calls, the oldest first; the condition, and the least input
 /// that meets it; the branches and loads; the steps left, and the leaves that the state may still make; and in a recovery what
 /// that is for.
-#[derive(Drop)]
 pub struct State<H: Home, K: Index> {
     pub frame: Frame<H>,
     pub callers: Callers<H>,
@@ -26,6 +25,24 @@ pub struct State<H: Home, K: Index> {
     pub left: u64,
     pub shares: u64,
     pub target: Option<Target>,
+}
+
+// Its parts are let go in one place, and not at each exit of a function that owns a state.
+impl<H: Home, K: Index> Drop for State<H, K> {
+    fn drop(self) {
+        let State {
+            frame: _,
+            callers: _,
+            memory: _,
+            snapshots: _,
+            condition: _,
+            kept: _,
+            path: _,
+            left: _,
+            shares: _,
+            target: _,
+        } = self;
+    }
 }
 
 /// A state goes on, or ends in a leaf at once.

@@ -29,9 +29,15 @@ pub enum EntryKind<H: Home> {
 }
 
 /// A change of memory, input or output, as a path records it.
-#[derive(Drop)]
 pub struct Entry<H: Home> {
     kind: EntryKind<H>,
+}
+
+// All that lets one go is in this one place, and each end of a scope is a call.
+impl<H: Home> Drop for Entry<H> {
+    fn drop(self) {
+        let Entry { kind: _ } = self;
+    }
 }
 
 impl<H: Home> Model for Entry<H> {

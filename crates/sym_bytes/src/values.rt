@@ -15,10 +15,16 @@ use std::marker::Model;
 use terms::Term;
 
 /// An object, or none, and an offset of 64 bits.
-#[derive(Drop)]
 pub struct Pointer<H: Home> {
     base: Base,
     offset: Term<H>,
+}
+
+// All that lets one go is in this one place, and each end of a scope is a call.
+impl<H: Home> Drop for Pointer<H> {
+    fn drop(self) {
+        let Pointer { base: _, offset: _ } = self;
+    }
 }
 
 impl<H: Home> Model for Pointer<H> {
@@ -74,9 +80,15 @@ impl<H: Home> Pointer<H> {
 }
 
 /// A value of an exploration.
-#[derive(Drop)]
 pub struct SymValue<H: Home> {
     kind: ValueKind<H>,
+}
+
+// All that lets one go is in this one place, and each end of a scope is a call.
+impl<H: Home> Drop for SymValue<H> {
+    fn drop(self) {
+        let SymValue { kind: _ } = self;
+    }
 }
 
 impl<H: Home> Model for SymValue<H> {
@@ -148,9 +160,15 @@ impl<H: Home> SymValue<H> {
 }
 
 /// A byte of an exploration.
-#[derive(Drop)]
 pub struct SymByte<H: Home> {
     kind: ByteKind<H>,
+}
+
+// All that lets one go is in this one place, and each end of a scope is a call.
+impl<H: Home> Drop for SymByte<H> {
+    fn drop(self) {
+        let SymByte { kind: _ } = self;
+    }
 }
 
 impl<H: Home> Model for SymByte<H> {

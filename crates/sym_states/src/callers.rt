@@ -91,11 +91,12 @@ impl<H: Home> Callers<H> {
     }
 
     /// The frames with a newer one.
-    pub fn with(self, alloc: Global, frame: Frame<H>) -> Result<Callers<H>, AllocError>
-        ensures { IfOk result (λ c. c ≡ frame ∷ self) }
+    pub fn with(&self, alloc: Global, frame: Frame<H>) -> Result<Callers<H>, AllocError>
+        ensures { IfOk result (λ c. c ≡ frame ∷ self.now) }
     {
+        let older = self.copy()?;
         Ok(Callers {
-            link: Arc::new(alloc, Link::Above(frame, self))?,
+            link: Arc::new(alloc, Link::Above(frame, older))?,
         })
     }
 

@@ -1,5 +1,5 @@
 //! Frames, and skipped calls.
-ghost use Rattle.std.specs.Prelude.{◌≡◌, Some, slice_get, slice_set, unwrap_or, IfOk};
+ghost use Rattle.std.specs.Prelude.{◌≡◌, Some, slice_get, slice_set, unwrap_or, IfOk, OnOk};
 ghost use Rattle.sym_states.specs.States as spec;
 
 use flat_ir::{CallStep, FrameName, FuncId, Location, NodeId, ObjectName, RegId};
@@ -39,13 +39,25 @@ pub struct Target {
 }
 
 /// A function at a place, its registers, its name, and how often it has executed each node.
-#[derive(Drop)]
 pub struct Frame<H: Home> {
     func: FuncId,
     place: Place,
     regs: Sequence<Option<SymValue<H>>>,
     name: FrameName,
     counts: Sequence<u64>,
+}
+
+// Its parts are let go in one place, and not at each exit of a function that owns a frame.
+impl<H: Home> Drop for Frame<H> {
+    fn drop(self) {
+        let Frame {
+            func: _,
+            place: _,
+            regs: _,
+            name: _,
+            counts: _,
+        } = self;
+    }
 }
 
 impl<H: Home> Model for Frame<H> {
@@ -186,45 +198,43 @@ impl<H: Home> Frame<H> {
         self.name.called(alloc, self.step_now()?)
     }
 
-    /// The frame has executed its node once more.
-    pub fn counted(mut self) -> Result<Frame<H>, AllocError>
-        ensures { IfOk result (λ f. f ≡ spec.counted self) }
+    /// Counts that the frame has executed its node once more.
+    pub fn counted(&mut self) -> Result<(), AllocError>
+        ensures { OnOk result (self.new ≡ spec.counted self.old) }
     {
         let step = self.step_now()?;
         let node = step.node.0 as usize;
         if node < self.counts.len() {
             self.counts.put(node, step.count);
         }
-        Ok(self)
+        Ok(())
     }
 
-    /// With a register set.
-    pub fn set(mut self, register: RegId, value: SymValue<H>) -> Frame<H>
-        ensures { result ≡ spec.set register value self }
+    /// Sets a register.
+    pub fn set(&mut self, register: RegId, value: SymValue<H>)
+        ensures { self.new ≡ spec.set register value self.old }
     {
         let at = register.0 as usize;
         if at < self.regs.len() {
             self.regs.put(at, Some(value));
         }
-        self
     }
 
-    /// With a register set, if one is named and there is a value.
-    pub fn set_if(self, register: Option<RegId>, value: Option<SymValue<H>>) -> Frame<H>
-        ensures { result ≡ spec.set_if register value self }
+    /// Sets a register, if one is named and there is a value.
+    pub fn set_if(&mut self, register: Option<RegId>, value: Option<SymValue<H>>)
+        ensures { self.new ≡ spec.set_if register value self.old }
     {
         match (register, value) {
             (Some(register), Some(value)) => self.set(register, value),
-            _ => self,
+            _ => {}
         }
     }
 
-    /// At another place.
-    pub fn at(mut self, place: Place) -> Frame<H>
-        ensures { result ≡ record self { place = place } }
+    /// Stands at another place.
+    pub fn at(&mut self, place: Place)
+        ensures { self.new ≡ record self.old { place = place } }
     {
         self.place = place;
-        self
     }
 }
 

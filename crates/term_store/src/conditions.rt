@@ -12,7 +12,7 @@ use std::marker::Model;
 use terms::{Term, Terms, not};
 
 /// What adding a conjunct did.
-#[derive(Clone, Copy, Debug, PartialEq, Eq)]
+#[derive(Clone, Copy, PartialEq, Eq)]
 pub enum Added {
     /// The condition has the conjunct already, or it is the constant 1.
     Held,
@@ -23,9 +23,15 @@ pub enum Added {
 }
 
 /// A condition, seen as the list of its conjuncts, in the order in which they were added.
-#[derive(Drop)]
 pub struct Conditions<H: Home> {
     terms: IndexSet<Term<H>>,
+}
+
+// All that lets one go is in this one place, and each end of a scope is a call.
+impl<H: Home> Drop for Conditions<H> {
+    fn drop(self) {
+        let Conditions { terms: _ } = self;
+    }
 }
 
 impl<H: Home> Model for Conditions<H> {

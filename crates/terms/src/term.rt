@@ -16,7 +16,7 @@ use std::sync::Arc;
 pub const MOST_LEVELS: u32 = 65_535;
 
 /// An operation on one term.
-#[derive(Clone, Copy, Debug, PartialEq, Eq, Hash)]
+#[derive(Clone, Copy, PartialEq, Eq)]
 pub enum Unary {
     /// The other bit.
     Not,
@@ -31,7 +31,7 @@ pub enum Unary {
 }
 
 /// An operation on two terms.
-#[derive(Clone, Copy, Debug, PartialEq, Eq, Hash)]
+#[derive(Clone, Copy, PartialEq, Eq)]
 pub enum Binary {
     /// An operation on numbers of one width.
     Bin(BinOp),

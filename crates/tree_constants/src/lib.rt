@@ -18,6 +18,7 @@ mod values;
 pub use addresses::gep_offset;
 pub use bytes::global_vars;
 pub use constants::constants_told;
+pub use names::{is_defined, is_function, is_reserved};
 pub use numbers::{bits_of, index_bits};
 pub use steps::gep_steps_fit;
 pub use told::{registers_told, values_told};

@@ -20,7 +20,8 @@ fn is_global(tree: &IrTree, name: &[u8]) -> bool
     false
 }
 
-fn is_defined(tree: &IrTree, name: &[u8]) -> bool
+/// Whether a function of the module has this name.
+pub fn is_defined(tree: &IrTree, name: &[u8]) -> bool
     ensures { result ≡ among name.now (texts (spec.function_names tree.now)) }
 {
     let functions = tree.functions.as_slice();
@@ -33,7 +34,7 @@ fn is_defined(tree: &IrTree, name: &[u8]) -> bool
 }
 
 /// Whether a module may call the function without defining it.
-fn is_reserved(name: &[u8]) -> bool
+pub fn is_reserved(name: &[u8]) -> bool
     ensures { result ≡ spec.is_reserved name.now }
 {
     find(name).is_some() || find_primitive(name).is_some()

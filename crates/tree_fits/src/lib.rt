@@ -12,8 +12,6 @@ mod sets;
 mod signatures;
 mod spelled;
 mod steps;
-#[cfg(test)]
-mod tests;
 mod values;
 
 pub use clashes::clashes_of;

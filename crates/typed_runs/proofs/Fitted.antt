@@ -2,6 +2,7 @@
 use Rattle.std.specs.Prelude.{slice_get, slice_set, unwrap_or, map, drop, reverse, nat_lt, All, ◌==◌, ◌%◌, ◌^◌, if◌then◌else◌}
 use Rattle.std.specs.Option.{option_map, option_to_list}
 use Rattle.std.proofs.Common.{ℕ, zero, suc, ◌+◌, ◌<◌, true, false, List, [], ◌∷◌, ◌++◌, length, Option, Some, None, arith}
+use Rattle.std.proofs.lemmas.Bool.{and_parts}
 use Rattle.std.proofs.lemmas.List.Elements.{recursion_from_All}
 use Rattle.std.specs.List.{AllByRecursion as Each}
 use Rattle.bitnum.specs.Operations.{applied}
@@ -30,7 +31,7 @@ use Rattle.flat_ir.specs.Machine.{Frame, State, Run, On, Over, func_at, regs_of,
 use Rattle.flat_ir.specs.Steps.{attempt, unless, gives, gives_if, gives_loaded, to, with_frame, with_history, number_in, address_in, division_fault, access_fault, free_fault, bit, related, cast_to, width_of, moved_by_all, new_here, allocated, loaded, byte_there, next_byte, set_all, case_of, branches, returns, ended, frees_at, frees_of_node, frees_from, call_next, call_result, set_result}
 use Rattle.flat_ir.specs.Run.{run, goes_on, step-attempt, run-zero, run-suc}
 use Rattle.flat_ir.specs.Whole.{IsWhole, IsWidth, IsFuncOf, operands_of}
-use Rattle.flat_ir.proofs.MadeBasics.{both, each_map, each_append, each_reverse, each_set, each_read}
+use Rattle.flat_ir.proofs.MadeBasics.{each_map, each_append, each_reverse, each_set, each_read}
 use Rattle.flat_ir.proofs.MadeKept.{with_place}
 use Rattle.typed_runs.specs.TypedRuns.{IsTyped, RunIsTyped}
 use Rattle.typed_runs.specs.FittingRuns.{Fits, OperandFits, NumbersFit, HoldsFitting, BytesFit, AreFitting, IsFitting, RunIsFitting}
@@ -180,7 +181,7 @@ attempt_fits p input (node.Free pointer next) s it =
 attempt_fits p input (node.Load pointer result next) s it =
     let t : RegType = type_at (regs_of (func_at p s.frame.func)) result in
     let a : Address = address_in s pointer in
-    let typed = both (has (regs_of (func_at p s.frame.func)) pointer type.Ptr) (is_scalar t) it.ready.node in
+    let typed = and_parts (has (regs_of (func_at p s.frame.func)) pointer type.Ptr) (is_scalar t) it.ready.node in
     unless_fits (access_fault p s.history (bytes_of_type t) a) s (gives_loaded (loaded p s.history a t) result next s)
     (loads s (loaded p s.history a t) result next it.fitting
     (loaded_fits p s.history a t it.whole it.numbers it.fitting.bytes (type_width p s.frame result it.whole) typed.1))

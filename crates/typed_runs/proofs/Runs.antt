@@ -2,6 +2,7 @@
 use Rattle.std.specs.Prelude.{slice_set, map, drop, take, nat_lt, ◌==◌, if◌then◌else◌}
 use Rattle.std.specs.Option.{option_map}
 use Rattle.std.proofs.Common.{◌≡◌, ℕ, zero, suc, true, false, List, [], ◌∷◌, ◌++◌, length, Option, Some, None, refl, sym, subst}
+use Rattle.std.proofs.lemmas.Bool.{and_parts}
 use Rattle.std.specs.List.{AllByRecursion as Each}
 use Rattle.bitnum.specs.Operations.{applied}
 use Rattle.checks.specs.Errors.{IsChecked}
@@ -27,7 +28,6 @@ use Rattle.flat_ir.specs.Registers.{null, zero_of, first_of, bytes_of_type, byte
 use Rattle.flat_ir.specs.Machine.{Frame, State, Run, On, Over, func_at, regs_of, node_at, value_in, start, counted, made_here, set_if, at_node}
 use Rattle.flat_ir.specs.Steps.{attempt, unless, gives, gives_if, gives_loaded, to, with_frame, with_history, number_in, address_in, division_fault, access_fault, free_fault, bit, related, cast_to, width_of, moved_by_all, new_here, allocated, loaded, byte_there, next_byte, set_all, case_of, branches, returns, ended, call_next, call_result, set_result}
 use Rattle.flat_ir.specs.Run.{run, goes_on, step-attempt, run-zero, run-suc}
-use Rattle.flat_ir.proofs.MadeBasics.{both}
 use Rattle.flat_ir.proofs.MadeKept.{with_place}
 use Rattle.typed_runs.specs.TypedRuns.{HasType, HaveTypes, HoldsTypes, IsCallOf, WaitAtCalls, AreTyped, IsTyped, RunIsTyped}
 use Rattle.typed_runs.specs.Shown.{IsGiven}
@@ -97,7 +97,7 @@ moves : (p : ProgramData) (s : State) (n : NodeId) (ms : List MoveSet) (regs : L
 moves p s n [] regs typed e all = goes p s n regs typed all
 moves p s n (m ∷ ms) regs typed e all =
     let v : ConcreteValue = value_in s.frame m.value in
-    let parts = both (has (types_of p s.frame) m.value (type_in p s.frame m.register)) (are_moved (types_of p s.frame) ms) e in
+    let parts = and_parts (has (types_of p s.frame) m.value (type_in p s.frame m.register)) (are_moved (types_of p s.frame) ms) e in
     moves p s n ms (slice_set regs m.register.0 v) typed parts.1
     (have_set (types_of p s.frame) regs m.register.0 v all (operand_is p s.frame m.value (type_in p s.frame m.register) typed.frame parts.0))
 
@@ -107,7 +107,7 @@ entered_have : (p : ProgramData) (f : Frame) (callee : Option Func) (args : List
     → HaveTypes (regs_of callee) (map (value_in f) args ++ map zero_of (drop (length (map (value_in f) args)) (regs_of callee)))
 entered_have p f None args result holds e = cc
 entered_have p f (Some g) args result holds e =
-    args_have p f args g.params g.regs holds (both (have (types_of p f) args (take g.params g.regs)) (sets (types_of p f) result g.result) e).0
+    args_have p f args g.params g.regs holds (and_parts (have (types_of p f) args (take g.params g.regs)) (sets (types_of p f) result g.result) e).0
 
 -- a return
 resumes : (p : ProgramData) (g : Frame) (gs : List Frame) (n : NodeId) (result : Option RegId) (o : Option RegType) (v : Option ConcreteValue)
@@ -139,7 +139,7 @@ attempt_typed p input (node.Bin op a b result next) s ready =
 attempt_typed p input (node.Cmp pr a b result next) s ready =
     let t : RegType = type_in p s.frame result in
     let v : ConcreteValue = bit (related pr (value_in s.frame a) (value_in s.frame b)) in
-    let parts = both (same_type t (type.Int 1)) (compares pr (type_of (types_of p s.frame) a) (type_of (types_of p s.frame) b)) ready.node in
+    let parts = and_parts (same_type t (type.Int 1)) (compares pr (type_of (types_of p s.frame) a) (type_of (types_of p s.frame) b)) ready.node in
     sets_register p s result v next ready.typed (of_same t (type.Int 1) v parts.0 refl)
 attempt_typed p input (node.Cast op a result next) s ready =
     let t : RegType = type_in p s.frame result in
@@ -161,7 +161,7 @@ attempt_typed p input (node.Select condition a b result next) s ready =
 attempt_typed p input (node.Alloca size result next) s ready =
     sets_register p s result (new_here s) next ready.typed (of_same (type_in p s.frame result) type.Ptr (new_here s) ready.node tt)
 attempt_typed p input (node.Malloc size result next) s ready =
-    let parts = both (has (types_of p s.frame) size (type.Int 64)) (sets (types_of p s.frame) result (Some type.Ptr)) ready.node in
+    let parts = and_parts (has (types_of p s.frame) size (type.Int 64)) (sets (types_of p s.frame) result (Some type.Ptr)) ready.node in
     elim (nat_lt 65536 (number_in s size).bits) as (λ t. RunIsTyped p (if t then gives_if result (Ptr null) next s else gives_if result (new_here s) next (allocated (number_in s size).bits s))) [
       | true ↦ sets_pointer p s result null next ready.typed parts.1
       | false ↦ sets_pointer p s result (record { base = Some (made_here s.frame); offset = 0 }) next ready.typed parts.1

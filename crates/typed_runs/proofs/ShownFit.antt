@@ -2,6 +2,7 @@
 use Rattle.std.specs.Prelude.{nat_lt, All, ◌==◌, if◌then◌else◌}
 use Rattle.std.specs.Option.{option_map}
 use Rattle.std.proofs.Common.{ℕ, zero, suc, ◌<◌, true, false, List, [], ◌∷◌, ◌++◌, Option, Some, None}
+use Rattle.std.proofs.lemmas.Bool.{and_parts}
 use Rattle.std.specs.List.{AllByRecursion as Each}
 use Rattle.bitnum.specs.Operations.{applied}
 use Rattle.checks.specs.Errors.{IsChecked}
@@ -23,7 +24,7 @@ use Rattle.flat_ir.specs.Machine.{Event, Branched, Loaded, Entered, Returned, Fr
 use Rattle.flat_ir.specs.Steps.{attempt, unless, gives, gives_if, gives_loaded, to, with_frame, with_history, number_in, address_in, division_fault, access_fault, free_fault, new_here, allocated, loaded, byte_there, case_of, branches, returns, ended}
 use Rattle.flat_ir.specs.Run.{run, goes_on, step-attempt, run-zero, run-suc}
 use Rattle.flat_ir.specs.Whole.{IsWhole}
-use Rattle.flat_ir.proofs.MadeBasics.{both, each_append}
+use Rattle.flat_ir.proofs.MadeBasics.{each_append}
 use Rattle.typed_runs.specs.TypedRuns.{RunIsTyped}
 use Rattle.typed_runs.specs.FittingRuns.{NumbersFit, RunIsFitting}
 use Rattle.typed_runs.specs.Shown.{OptionFits, EventFits}
@@ -69,7 +70,7 @@ attempt_shown p input (node.Free pointer next) s it shown =
 attempt_shown p input (node.Load pointer result next) s it shown =
     let t : RegType = type_at p s.frame.func result in
     let a : Address = address_in s pointer in
-    let typed = both (has (regs_of (func_at p s.frame.func)) pointer type.Ptr) (is_scalar t) it.ready.node in
+    let typed = and_parts (has (regs_of (func_at p s.frame.func)) pointer type.Ptr) (is_scalar t) it.ready.node in
     unless_shown (access_fault p s.history (bytes_of_type t) a) s (gives_loaded (loaded p s.history a t) result next s) shown
     (load_shown s (loaded p s.history a t) result next shown
     (loaded_fits p s.history a t it.whole it.numbers it.fitting.bytes (type_width p s.frame result it.whole) typed.1))

@@ -1,7 +1,7 @@
 -- A typed frame suits the node at which it stands.
 use Rattle.std.specs.Prelude.{slice_get}
 use Rattle.std.proofs.Common.{◌≡◌, ℕ, zero, suc, ◌*◌, ◌/◌, ◌≤◌, Bool, true, false, ◌||◌, ◌==◌, List, [], ◌∷◌, length, Option, refl, sym, ◌∙◌, ap, subst, ◌⊎◌, inl, inr, arith}
-use Rattle.std.proofs.lemmas.Bool.{eqb-true}
+use Rattle.std.proofs.lemmas.Bool.{and_parts, eqb-true}
 use Rattle.std.proofs.lemmas.List.Elements.{recursion_from_All}
 use Rattle.std.specs.List.{AllByRecursion as Each}
 use Rattle.checks.specs.Types.{type_of, type_at, same_type, is_int, is_scalar, has, casts, compares, is_equality, resizes}
@@ -20,7 +20,7 @@ use Rattle.flat_ir.specs.Registers.{number, bytes_of_type, bytes_of_value}
 use Rattle.flat_ir.specs.Machine.{Frame, func_at, regs_of, node_at, value_in}
 use Rattle.flat_ir.specs.Steps.{width_of}
 use Rattle.flat_ir.specs.Whole.{IsWhole, IsFuncOf, IsWidth}
-use Rattle.flat_ir.proofs.MadeBasics.{both, each_read}
+use Rattle.flat_ir.proofs.MadeBasics.{each_read}
 use Rattle.typed_runs.specs.TypedRuns.{HasType, HoldsTypes}
 use Rattle.typed_runs.specs.Suiting.{AreAlike, IsNumbers, Suits, result_of}
 use Rattle.typed_runs.specs.Laws.{TypedFramesSuit}
@@ -105,20 +105,20 @@ node_suits p f returned (node.Cmp pr a b result next) whole holds e =
     let regs = regs_of (func_at p f.func) in
     let s : RegType = type_of regs a in
     let t : RegType = type_of regs b in
-    let parts = both (same_type (type_at regs result) (type.Int 1)) (compares pr s t) e in
-    let same = both (same_type s t) (is_int s || is_equality pr) parts.1 in
+    let parts = and_parts (same_type (type_at regs result) (type.Int 1)) (compares pr s t) e in
+    let same = and_parts (same_type s t) (is_int s || is_equality pr) parts.1 in
     alike s (value_in f a) (value_in f b) (operand_has p f a holds) (of_same s t (value_in f b) same.0 (operand_has p f b holds))
 node_suits p f returned (node.Cast op a result next) whole holds e =
     let regs = regs_of (func_at p f.func) in
     cast_suits op (type_of regs a) (type_at regs result) (value_in f a) (type_width p f result whole) e (operand_has p f a holds)
 node_suits p f returned (node.Load pointer result next) whole holds e =
     let regs = regs_of (func_at p f.func) in
-    let parts = both (has regs pointer type.Ptr) (is_scalar (type_at regs result)) e in
+    let parts = and_parts (has regs pointer type.Ptr) (is_scalar (type_at regs result)) e in
     record { width = type_width p f result whole; some = takes_bytes (type_at regs result) parts.1 }
 node_suits p f returned (node.Store value pointer next) whole holds e =
     let regs = regs_of (func_at p f.func) in
     let t : RegType = type_of regs value in
-    let parts = both (is_scalar t) (has regs pointer type.Ptr) e in
+    let parts = and_parts (is_scalar t) (has regs pointer type.Ptr) e in
     subst (λ (n : ℕ). 1 ≤ n) (sym (bytes_of t (value_in f value) (operand_has p f value holds))) (takes_bytes t parts.0)
 node_suits p f returned _ whole holds e = tt
 

@@ -1,7 +1,7 @@
 -- Facts on types of values and of lists of values.
 use Rattle.std.specs.Prelude.{slice_get, slice_set, unwrap_or, map, drop, take}
 use Rattle.std.proofs.Common.{◌≡◌, ℕ, zero, suc, Bool, true, false, ◌&&◌, List, [], ◌∷◌, ◌++◌, length, refl, sym, ◌∙◌, ap, subst}
-use Rattle.std.proofs.lemmas.Bool.{eqb-true}
+use Rattle.std.proofs.lemmas.Bool.{and_parts, eqb-true}
 use Rattle.bitnum.specs.Number.{Number}
 use Rattle.checks.specs.Types.{type_of, same_type, is_int, has, have}
 use Rattle.flat_ir.specs.declared.nodes.Operand.{Operand}
@@ -13,11 +13,10 @@ use Rattle.flat_ir.specs.declared.values.ConcreteValue.{ConcreteValue}
 use Rattle.flat_ir.specs.declared.values.ConcreteValue.TheVariants.{Int, Ptr}
 use Rattle.flat_ir.specs.Registers.{null, number, zero_of}
 use Rattle.flat_ir.specs.Machine.{Frame, func_at, regs_of, value_in}
-use Rattle.flat_ir.proofs.MadeBasics.{both}
 use Rattle.typed_runs.specs.TypedRuns.{HasType, HaveTypes, HoldsTypes}
 
 pub all_three : (p q r : Bool) → p && q && r ≡ true → (p ≡ true) × (q ≡ true) × (r ≡ true)
-all_three true q r e = let rest = both q r e in (refl, rest.0, rest.1)
+all_three true q r e = let rest = and_parts q r e in (refl, rest.0, rest.1)
 all_three false q r e = cc
 
 pub same_is : (a b : RegType) → same_type a b ≡ true → a ≡ b
@@ -78,5 +77,5 @@ args_have p f (a ∷ args) zero [] holds e = cc
 args_have p f (a ∷ args) zero (t ∷ ts) holds e = cc
 args_have p f (a ∷ args) (suc params) [] holds e = cc
 args_have p f (a ∷ args) (suc params) (t ∷ ts) holds e =
-    let parts = both (has (regs_of (func_at p f.func)) a t) (have (regs_of (func_at p f.func)) args (take params ts)) e in
+    let parts = and_parts (has (regs_of (func_at p f.func)) a t) (have (regs_of (func_at p f.func)) args (take params ts)) e in
     (operand_is p f a t holds parts.0, args_have p f args params ts holds parts.1)

@@ -2,6 +2,7 @@
 use Rattle.std.specs.Prelude.{slice_get, take, ◌==◌, if◌then◌else◌}
 use Rattle.std.specs.Option.{option_map}
 use Rattle.std.proofs.Common.{◌≡◌, ℕ, true, false, List, [], ◌∷◌, Option, Some, None, refl, subst}
+use Rattle.std.proofs.lemmas.Bool.{and_parts}
 use Rattle.checks.specs.Types.{sets, gives, have, casts}
 use Rattle.checks.specs.Typed.{calls, is_typed}
 use Rattle.flat_ir.specs.declared.names.FuncId.{FuncId}
@@ -23,7 +24,6 @@ use Rattle.flat_ir.specs.Registers.{null, joined, joined_number, joined_pointer,
 use Rattle.flat_ir.specs.Machine.{Frame, func_at, regs_of, value_in}
 use Rattle.flat_ir.specs.Steps.{cast_to, width_of, call_result}
 use Rattle.bitnum.specs.Number.{Number}
-use Rattle.flat_ir.proofs.MadeBasics.{both}
 use Rattle.typed_runs.specs.TypedRuns.{HasType, HoldsTypes, IsCallOf}
 use Rattle.typed_runs.specs.Shown.{IsGiven}
 use Rattle.typed_runs.specs.Suiting.{result_of}
@@ -71,7 +71,7 @@ given p f (Some a) (Some t) holds e = operand_is p f a t holds e
 -- a call's register is of that type
 calls_set : (regs : List RegType) (callee : Option Func) (args : List Operand) (result : Option RegId) → calls regs callee args result ≡ true → sets regs result (result_of callee) ≡ true
 calls_set regs None args result e = cc
-calls_set regs (Some f) args result e = (both (have regs args (take f.params f.regs)) (sets regs result f.result) e).1
+calls_set regs (Some f) args result e = (and_parts (have regs args (take f.params f.regs)) (sets regs result f.result) e).1
 
 pub call_sets : (funcs : List Func) (regs : List RegType) (returned : Option RegType) (call : Node) (f : FuncId) → IsCallOf f call
     → is_typed funcs regs returned call ≡ true → sets regs (call_result call) (result_of (slice_get funcs f.0)) ≡ true

@@ -13,10 +13,16 @@ use sym_bytes::{ByteKind, ReadByte, SymByte};
 use terms::{Term, Terms, ite};
 
 /// A byte that is the one looked for where the test is 1.
-#[derive(Drop)]
 pub(crate) struct Candidate<H: Home> {
     test: Term<H>,
     found: SymByte<H>,
+}
+
+// All that lets one go is in this one place, and each end of a scope is a call.
+impl<H: Home> Drop for Candidate<H> {
+    fn drop(self) {
+        let Candidate { test: _, found: _ } = self;
+    }
 }
 
 impl<H: Home> Model for Candidate<H> {

@@ -12,10 +12,16 @@ use std::marker::Model;
 use sym_bytes::{CallId, Entry};
 
 /// What is recovered of a call in one location, the newest entry first.
-#[derive(Drop)]
 pub(crate) struct Fill<H: Home> {
     at: Location,
     entries: Sequence<Entry<H>>,
+}
+
+// All that lets one go is in this one place, and each end of a scope is a call.
+impl<H: Home> Drop for Fill<H> {
+    fn drop(self) {
+        let Fill { at: _, entries: _ } = self;
+    }
 }
 
 impl<H: Home> Model for Fill<H> {
@@ -68,9 +74,15 @@ pub(crate) enum ItemKind<H: Home> {
 }
 
 /// What stands in a log.
-#[derive(Drop)]
 pub(crate) struct Item<H: Home> {
     kind: ItemKind<H>,
+}
+
+// All that lets one go is in this one place, and each end of a scope is a call.
+impl<H: Home> Drop for Item<H> {
+    fn drop(self) {
+        let Item { kind: _ } = self;
+    }
 }
 
 impl<H: Home> Model for Item<H> {

@@ -27,11 +27,21 @@ use term_store::Conditions;
 use terms::{Term, Terms, constant};
 
 /// The log of a path, over the globals that it began with. Copies share both.
-#[derive(Drop)]
 pub struct Log<H: Home> {
     alloc: Global,
     globals: Arc<Sequence<GlobalVar>, Global>,
     trail: Trail<H>,
+}
+
+// All that lets one go is in this one place, and each end of a scope is a call.
+impl<H: Home> Drop for Log<H> {
+    fn drop(self) {
+        let Log {
+            alloc: _,
+            globals: _,
+            trail: _,
+        } = self;
+    }
 }
 
 impl<H: Home> Model for Log<H> {

@@ -27,10 +27,16 @@ pub trait Index: Drop {
 }
 
 /// The log of a path, and what is kept beside it. Contracts see the log alone.
-#[derive(Drop)]
 pub struct Memory<H: Home, K: Index> {
     pub log: Log<H>,
     pub index: K,
+}
+
+// All that lets one go is in this one place, and each end of a scope is a call.
+impl<H: Home, K: Index> Drop for Memory<H, K> {
+    fn drop(self) {
+        let Memory { log: _, index: _ } = self;
+    }
 }
 
 impl<H: Home, K: Index> Model for Memory<H, K> {

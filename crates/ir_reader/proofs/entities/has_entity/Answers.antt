@@ -1,8 +1,8 @@
 use Rattle.std.proofs.Common.{[], ◌∷◌, ◌∙◌}
 use Rattle.std.specs.Prelude.{codes}
 use Rattle.ir_grammar.specs.Tokens.{a_local, a_global, words}
-use Rattle.ir_reader.specs.Source.{pieces}
-use Rattle.ir_reader.proofs.Gather.{past}
+use Rattle.reader_words.specs.Source.{pieces}
+use Rattle.reader_words.proofs.Gather.{past}
 use Rattle.ir_reader.proofs.entities.has_entity.Goals as goal
 
 pub returns : goal.returns

@@ -4,10 +4,11 @@ use Rattle.ir_grammar.specs.Tokens.{comma, equals}
 use Rattle.ir_grammar.specs.Instructions.{tail_starts}
 use Rattle.ir_grammar.specs.Module.{entity, entity_starts}
 use Rattle.ir_grammar.proofs.ModuleExact.{entity_exact}
-use Rattle.ir_reader.specs.Source.{pieces}
+use Rattle.reader_words.specs.Source.{pieces}
 use Rattle.ir_reader.specs.Entities.{entity_of, with_entities}
-use Rattle.ir_reader.proofs.Turns.{fewer}
-use Rattle.ir_reader.proofs.Gather.{turn, entities_none, entities_later}
+use Rattle.reader_words.proofs.Turns.{fewer}
+use Rattle.reader_words.proofs.Gather.{turn}
+use Rattle.ir_reader.proofs.TreeParts.{entities_none, entities_later}
 use Rattle.ir_reader.proofs.entities.module.Goals as goal
 
 pub entities-smaller : goal.entities-smaller

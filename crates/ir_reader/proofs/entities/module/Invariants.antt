@@ -2,7 +2,7 @@ use Rattle.std.proofs.Common.{◌≡◌, length}
 use Rattle.phrases.specs.Phrase.{many}
 use Rattle.ir_grammar.specs.Module.{entity, entity_starts, module_text}
 use Rattle.ir_reader.specs.Entities.{collected_after}
-use Rattle.ir_reader.specs.Source.{pieces}
+use Rattle.reader_words.specs.Source.{pieces}
 use Rattle.ir_reader.proofs.entities.module.Given as goal
 
 abbrev pub invariant-entities : goal.invariant-entities

@@ -1,7 +1,7 @@
 use Rattle.std.proofs.Common.{arith}
 use Rattle.std.proofs.lemmas.List.{length-map}
 use Rattle.ir_grammar.specs.Tokens.{piece, seen}
-use Rattle.ir_reader.specs.Source.{pieces}
+use Rattle.reader_words.specs.Source.{pieces}
 use Rattle.ir_reader.proofs.Told.{read_whole, trailing, stopped}
 use Rattle.ir_reader.proofs.text.spelled.Goals as goal
 

@@ -2,7 +2,7 @@ use Rattle.std.proofs.Common.{◌<◌, ◌+◌, length, drop, get_or, arith, sym
 use Rattle.gates.specs.Bits.{fold_not, fold_and, fold_xor}
 use Rattle.nodes.specs.Nodes.{bit_at}
 use Rattle.nodes.specs.Names.{bits_at}
-use Rattle.nodes.proofs.GrowthLemmas.{stays, grows_on}
+use Rattle.nodes.proofs.GrowthLemmas.{stays, grows_on, read_within}
 use Rattle.rows.specs.Rows.{alike}
 use Rattle.row_nodes.proofs.RowLemmas.{alike_more, alike_past}
 use Rattle.row_nodes.proofs.compare.equal.Goals as goal
@@ -27,3 +27,21 @@ loop-i-preserved c =
 pub returns-clause-bit : goal.returns-clause-bit
 returns-clause-bit c =
     sym (alike_past (bit_at c.loop-i.table c.loop-i.so_far) c.args.table.now c.args.xs.now c.args.ys.now c.loop-i.i c.loop-i-test.false) ∙ c.loop-i.invariant.bit
+
+pub loop-i-init : goal.loop-i-init
+loop-i-init c =
+    record {
+      grows = c.constant.ensures.grows;
+      within = c.in_ok-so_far.ensures.within;
+      bit = ap (λ b. alike b (bits_at c.args.table.now c.args.xs.now) (bits_at c.args.table.now c.args.ys.now)) c.in_ok-so_far.ensures.bit;
+    }
+
+pub still_equal-requires-clause-left : goal.still_equal-requires-clause-left
+still_equal-requires-clause-left c =
+    let low : c.loop-i.i < length c.args.xs.now = c.loop-i-test.true in
+    read_within c.args.table.now c.loop-i.table c.loop-i.invariant.grows c.args.xs.now c.requires.left c.loop-i.i low
+
+pub still_equal-requires-clause-right : goal.still_equal-requires-clause-right
+still_equal-requires-clause-right c =
+    let low : c.loop-i.i < length c.args.xs.now = c.loop-i-test.true in
+    read_within c.args.table.now c.loop-i.table c.loop-i.invariant.grows c.args.ys.now c.requires.right c.loop-i.i (omega arith)

@@ -23,3 +23,11 @@ loop-preserved c = record {
 pub returns-clause-bits : goal.returns-clause-bits
 returns-clause-bits c =
     builds_last c.args.table.now c.loop.table c.loop.row.items _ _ c.loop.invariant.builds (constant_past c.args.width c.loop.counter c.loop.rest c.loop-test.false)
+
+pub returns-clause-within : goal.returns-clause-within
+returns-clause-within c =
+    c.loop.invariant.builds.within
+
+pub returns-clause-grows : goal.returns-clause-grows
+returns-clause-grows c =
+    c.loop.invariant.builds.grows

@@ -1,8 +1,8 @@
 use Rattle.std.proofs.Common.{[], ◌∷◌, ◌<◌, length, get_or, arith, ap, ap₂, ◌∙◌, length-append}
 use Rattle.nodes.specs.Nodes.{bit_at}
-use Rattle.nodes.proofs.GrowthLemmas.{stays, grows_none, builds_first, builds_more, builds_last}
+use Rattle.nodes.proofs.GrowthLemmas.{stays, grows_none, builds_first, builds_more, builds_last, read_within}
 use Rattle.row_nodes.specs.Gates.{folded}
-use Rattle.row_nodes.proofs.RowLemmas.{each_more, each_past, folded_stays}
+use Rattle.row_nodes.proofs.RowLemmas.{each_more, each_past, folded_stays, gate_within}
 use Rattle.row_nodes.proofs.pairs.each.Goals as goal
 
 pub loop-i-init : goal.loop-i-init
@@ -31,3 +31,25 @@ loop-i-preserved c =
 pub returns-clause-bits : goal.returns-clause-bits
 returns-clause-bits c =
     builds_last c.args.table.now c.loop-i.table c.loop-i.row.items _ _ c.loop-i.invariant.builds (each_past (folded c.args.table.now c.args.gate) c.args.table.now c.args.xs.now c.args.ys.now c.loop-i.i c.loop-i-test.false)
+
+pub pair-requires-clause-gate : goal.pair-requires-clause-gate
+pair-requires-clause-gate c =
+    gate_within c.args.table.now c.loop-i.table c.loop-i.invariant.builds.grows c.args.gate c.requires.gate
+
+pub pair-requires-clause-left : goal.pair-requires-clause-left
+pair-requires-clause-left c =
+    let low : c.loop-i.i < length c.args.xs.now = c.loop-i-test.true in
+    read_within c.args.table.now c.loop-i.table c.loop-i.invariant.builds.grows c.args.xs.now c.requires.left c.loop-i.i low
+
+pub pair-requires-clause-right : goal.pair-requires-clause-right
+pair-requires-clause-right c =
+    let low : c.loop-i.i < length c.args.xs.now = c.loop-i-test.true in
+    read_within c.args.table.now c.loop-i.table c.loop-i.invariant.builds.grows c.args.ys.now c.requires.right c.loop-i.i (omega arith)
+
+pub returns-clause-within : goal.returns-clause-within
+returns-clause-within c =
+    c.loop-i.invariant.builds.within
+
+pub returns-clause-grows : goal.returns-clause-grows
+returns-clause-grows c =
+    c.loop-i.invariant.builds.grows

@@ -1,6 +1,6 @@
 use Rattle.std.proofs.Common.{[], ◌∷◌, ◌<◌, length, get_or, arith, ap, ◌∙◌, length-append}
 use Rattle.gates.specs.Bits.{fold_not}
-use Rattle.nodes.proofs.GrowthLemmas.{stays, grows_none, builds_first, builds_more, builds_last}
+use Rattle.nodes.proofs.GrowthLemmas.{stays, grows_none, builds_first, builds_more, builds_last, read_within}
 use Rattle.row_nodes.proofs.RowLemmas.{inverted_more, inverted_past}
 use Rattle.row_nodes.proofs.pairs.inverted.Goals as goal
 
@@ -27,3 +27,16 @@ loop-i-preserved c =
 pub returns-clause-bits : goal.returns-clause-bits
 returns-clause-bits c =
     builds_last c.args.table.now c.loop-i.table c.loop-i.row.items _ _ c.loop-i.invariant.builds (inverted_past c.args.table.now c.args.xs.now c.loop-i.i c.loop-i-test.false)
+
+pub not-requires : goal.not-requires
+not-requires c =
+    let low : c.loop-i.i < length c.args.xs.now = c.loop-i-test.true in
+    read_within c.args.table.now c.loop-i.table c.loop-i.invariant.builds.grows c.args.xs.now c.requires c.loop-i.i low
+
+pub returns-clause-within : goal.returns-clause-within
+returns-clause-within c =
+    c.loop-i.invariant.builds.within
+
+pub returns-clause-grows : goal.returns-clause-grows
+returns-clause-grows c =
+    c.loop-i.invariant.builds.grows

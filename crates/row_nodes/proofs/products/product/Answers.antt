@@ -3,7 +3,7 @@ use Rattle.std.proofs.lemmas.List.{length-replicate}
 use Rattle.gates.specs.Bits.{constant}
 use Rattle.nodes.specs.Nodes.{bit_at}
 use Rattle.nodes.specs.Names.{bits_at, AreWithin}
-use Rattle.nodes.proofs.GrowthLemmas.{stays, still_within, all_stay, all_within, grows_none, grows_on, bits_at-more, length-bits_at, within_replicate}
+use Rattle.nodes.proofs.GrowthLemmas.{stays, still_within, all_stay, all_within, grows_none, grows_on, bits_at-more, length-bits_at, within_replicate, read_within}
 use Rattle.rows.specs.Rows.{added, fills, masked, multiplied}
 use Rattle.row_nodes.proofs.RowLemmas.{bits_at-replicate}
 use Rattle.row_nodes.proofs.MoveLemmas.{up_bits, up_within, up_sized, multiplied-more, multiplied-none}
@@ -65,3 +65,20 @@ pub returns-clause-bits : goal.returns-clause-bits
 returns-clause-bits c =
     let now = c.loop-i.table in
     sym (multiplied-none (bits_at now c.loop-i.sum.items) (bits_at now c.loop-i.moved.items) c.args.table.now c.args.ys.now c.loop-i.i c.loop-i-test.false) ∙ c.loop-i.invariant.bits
+
+pub added_where-requires-clause-test : goal.added_where-requires-clause-test
+added_where-requires-clause-test c =
+    let low : c.loop-i.i < length c.args.ys.now = c.loop-i-test.true in
+    read_within c.args.table.now c.loop-i.table c.loop-i.invariant.grows c.args.ys.now c.requires.right c.loop-i.i low
+
+pub added_where-requires-clause-places : goal.added_where-requires-clause-places
+added_where-requires-clause-places c =
+    ap length c.deref.ensures.value ∙ c.loop-i.invariant.sum_sized ∙ sym (ap length c.deref-in-loop-i.ensures.value ∙ c.loop-i.invariant.moved_sized)
+
+pub added_where-requires-clause-left : goal.added_where-requires-clause-left
+added_where-requires-clause-left c =
+    subst (AreWithin c.loop-i.table) (sym c.deref.ensures.value) c.loop-i.invariant.sum_within
+
+pub added_where-requires-clause-right : goal.added_where-requires-clause-right
+added_where-requires-clause-right c =
+    subst (AreWithin c.loop-i.table) (sym c.deref-in-loop-i.ensures.value) c.loop-i.invariant.moved_within

@@ -1,11 +1,11 @@
-use Rattle.std.proofs.Common.{◌≡◌, ◌<◌, ◌+◌, ◌*◌, length, drop, get_or, arith, sym, ap, ap₂, ◌∙◌, subst}
+use Rattle.std.proofs.Common.{◌≡◌, ◌<◌, ◌+◌, ◌*◌, length, drop, get_or, arith, sym, ap, ap₂, ◌∙◌, subst, length-append}
 use Rattle.nodes.specs.Nodes.{bit_at}
 use Rattle.nodes.specs.Names.{bits_at, AreWithin}
-use Rattle.nodes.proofs.GrowthLemmas.{stays, grows_none, grows_on, bits_at-more, length-bits_at}
+use Rattle.nodes.proofs.GrowthLemmas.{stays, grows_none, grows_on, bits_at-more, length-bits_at, read_within}
 use Rattle.rows.specs.Rows as rows
 use Rattle.rows.specs.Rows.{fold_mux, each}
 use Rattle.row_nodes.specs.Moves.{bits_moved}
-use Rattle.row_nodes.proofs.MoveLemmas.{move_stays, moved_by-more, moved_by-far, moved_by-none}
+use Rattle.row_nodes.proofs.MoveLemmas.{move_stays, moved_by-more, moved_by-far, moved_by-none, fills_within}
 use Rattle.row_nodes.proofs.shifts.moved_by.Goals as goal
 
 pub loop-i-init : goal.loop-i-init
@@ -56,3 +56,22 @@ returns-clause-bits c =
     let old = c.args.table.now in
     let row = bits_at c.loop-i.table c.loop-i.row.items in
     sym (moved_by-none (bits_moved old c.args.way) c.loop-i.by row old c.args.ys.now c.loop-i.i c.loop-i-test.false) ∙ c.loop-i.invariant.bits
+
+pub moved_where-requires-clause-test : goal.moved_where-requires-clause-test
+moved_where-requires-clause-test c =
+    let low : c.loop-i.i < length c.args.ys.now = c.loop-i-test.true in
+    read_within c.args.table.now c.loop-i.table c.loop-i.invariant.grows c.args.ys.now c.requires.right c.loop-i.i low
+
+pub moved_where-requires-clause-way : goal.moved_where-requires-clause-way
+moved_where-requires-clause-way c =
+    let old = c.args.table.now in
+    let now = c.loop-i.table in
+    fills_within old now (omega (arith, length-append old c.loop-i.invariant.grows.0, ap length c.loop-i.invariant.grows.1)) c.args.way c.requires.way
+
+pub moved_where-requires-clause-by : goal.moved_where-requires-clause-by
+moved_where-requires-clause-by c =
+    omega (arith, ap length c.deref.ensures.value, c.loop-i.invariant.sized, c.if-by-xs.false)
+
+pub moved_where-requires-clause-row : goal.moved_where-requires-clause-row
+moved_where-requires-clause-row c =
+    subst (AreWithin c.loop-i.table) (sym c.deref.ensures.value) c.loop-i.invariant.within

@@ -2,7 +2,7 @@ use Rattle.std.proofs.Common.{[], ◌∷◌, ◌<◌, ◌+◌, length, drop, get
 use Rattle.gates.specs.Bits.{fold_and, fold_xor}
 use Rattle.nodes.specs.Nodes.{bit_at}
 use Rattle.nodes.specs.Names.{bits_at}
-use Rattle.nodes.proofs.GrowthLemmas.{stays, grows_none, builds_first, builds_more, builds_last}
+use Rattle.nodes.proofs.GrowthLemmas.{stays, grows_none, builds_first, builds_more, builds_last, read_within}
 use Rattle.rows.specs.Rows as rows
 use Rattle.rows.specs.Rows.{fold_or}
 use Rattle.row_nodes.proofs.RowLemmas.{added_more, added_past}
@@ -38,3 +38,21 @@ loop-i-preserved c =
 pub returns-clause-bits : goal.returns-clause-bits
 returns-clause-bits c =
     builds_last c.args.table.now c.loop-i.table c.loop-i.row.items _ _ c.loop-i.invariant.builds (added_past (bit_at c.loop-i.table c.loop-i.carry) c.args.table.now c.args.xs.now c.args.ys.now c.loop-i.i c.loop-i-test.false)
+
+pub full_adder-requires-clause-left : goal.full_adder-requires-clause-left
+full_adder-requires-clause-left c =
+    let low : c.loop-i.i < length c.args.xs.now = c.loop-i-test.true in
+    read_within c.args.table.now c.loop-i.table c.loop-i.invariant.builds.grows c.args.xs.now c.requires.left c.loop-i.i low
+
+pub full_adder-requires-clause-right : goal.full_adder-requires-clause-right
+full_adder-requires-clause-right c =
+    let low : c.loop-i.i < length c.args.xs.now = c.loop-i-test.true in
+    read_within c.args.table.now c.loop-i.table c.loop-i.invariant.builds.grows c.args.ys.now c.requires.right c.loop-i.i (omega arith)
+
+pub returns-clause-within : goal.returns-clause-within
+returns-clause-within c =
+    c.loop-i.invariant.builds.within
+
+pub returns-clause-grows : goal.returns-clause-grows
+returns-clause-grows c =
+    c.loop-i.invariant.builds.grows

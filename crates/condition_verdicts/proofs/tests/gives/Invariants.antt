@@ -1,5 +1,0 @@
-use Rattle.condition_verdicts.proofs.tests.gives.Given as goal
-
--- the table that was just opened
-abbrev pub ghosts-clauses_of_operation : goal.ghosts-clauses_of_operation
-ghosts-clauses_of_operation a = record { book = a.opened.seen.book }

@@ -1,9 +1,0 @@
-use Rattle.std.proofs.Common.{sym, subst}
-use Rattle.std.specs.Prelude.{All}
-use Rattle.std.proofs.lemmas.List.Elements.{All-push}
-use Rattle.term_bits.specs.Conditions.{IsConjunct}
-use Rattle.condition_verdicts.proofs.tests.push_conjunct.Goals as goal
-
-pub returns : goal.returns
-returns g c =
-    subst (All IsConjunct) (sym c.in_ok-push.ensures.ok) (All-push IsConjunct c.args.all.now c.args.t c.requires.all c.requires.conjunct)

@@ -1,5 +1,0 @@
-use Rattle.condition_verdicts.proofs.tests.the_letter_is_found.Given as goal
-
--- the table that was just opened
-abbrev pub ghosts-clauses_of_letter : goal.ghosts-clauses_of_letter
-ghosts-clauses_of_letter g a = record { book = a.opened.seen.book }

@@ -1,0 +1,5 @@
+pub mod Gather
+pub mod Digits
+pub mod Escapes
+pub mod Tables
+pub mod Turns
