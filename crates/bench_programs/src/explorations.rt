@@ -3,7 +3,7 @@
 ghost use Rattle.std.specs.Prelude.{◌≡◌, ◌≤◌, ◌<◌, ◌^◌, None, length};
 ghost use Rattle.checks.specs.Errors.{IsChecked};
 
-use crate::words::{number, refused};
+use crate::words::{number, refused, word_at};
 use chop_outside::{HostFiles, read_whole};
 use flat_ir::Program;
 use leaves::{Leaf, LeafKind, Options};
@@ -116,7 +116,7 @@ pub(crate) fn timed(rt: &HostRuntime, words: &[String]) -> io::Result<()> {
     let (Some(input), Some(times)) = (number(words, 0), number(words, 1)) else {
         return refused(rt);
     };
-    let Some(Ok(name)) = words.get(2).map(|word| word.clone()) else {
+    let Some(name) = word_at(words, 2) else {
         return refused(rt);
     };
     let mut files = HostFiles::new(rt);

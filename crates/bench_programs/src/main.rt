@@ -46,9 +46,9 @@ fn timed(rt: &HostRuntime, what: &str, words: &[String]) -> io::Result<()> {
 }
 
 fn timed_by(rt: &HostRuntime, words: &[String]) -> io::Result<()> {
-    match words {
-        [what, others @ ..] => timed(rt, what.as_str(), others),
-        [] => refused(rt),
+    match words.split_first() {
+        Some((what, others)) => timed(rt, what.as_str(), others),
+        None => refused(rt),
     }
 }
 
@@ -75,10 +75,10 @@ fn main(rt: HostRuntime) -> io::Result<()> {
     let Ok(words) = env::args(&rt)?.skip(1).collect::<Vec<String>>(rt.alloc()) else {
         return println!(rt; "no memory");
     };
-    if let [word] = words.as_slice()
-        && word.as_str() == "each"
-    {
-        return small_work(&rt);
+    if let [word] = words.as_slice() {
+        if word.as_str() == "each" {
+            return small_work(&rt);
+        }
     }
     timed_by(&rt, words.as_slice())
 }

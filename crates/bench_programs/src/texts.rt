@@ -1,7 +1,7 @@
 //! Reading of a module: `reader keep|lex|read FILE`.
 ghost use Rattle.std.specs.Prelude.{◌<◌, ◌^◌, ◌≡◌, None, length, string_bytes};
 
-use crate::words::refused;
+use crate::words::{refused, word_at};
 use chop_outside::{HostFiles, read_whole};
 use ir_lexer::text::lex;
 use ir_reader::text::read;
@@ -50,7 +50,7 @@ pub(crate) fn timed(rt: &HostRuntime, words: &[String]) -> io::Result<()> {
     let Some(what) = words.get(0).and_then(|word| named(word.as_str())) else {
         return refused(rt);
     };
-    let Some(Ok(name)) = words.get(1).map(|word| word.clone()) else {
+    let Some(name) = word_at(words, 1) else {
         return refused(rt);
     };
     let mut files = HostFiles::new(rt);

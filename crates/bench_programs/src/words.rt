@@ -18,6 +18,11 @@ pub(crate) fn number(words: &[String], place: usize) -> Option<u32> {
     words.get(place).and_then(|word| word.parse::<u32>().ok())
 }
 
+/// A copy of the word that stands at a place, if one does.
+pub(crate) fn word_at(words: &[String], place: usize) -> Option<String> {
+    words.get(place).and_then(|word| word.clone().ok())
+}
+
 /// Prints which words there are.
 pub(crate) fn refused(rt: &HostRuntime) -> io::Result<()> {
     println!(rt; "{USAGE}")

@@ -14,10 +14,10 @@ use Rattle.chop_top.specs.declared.top.Answer.{Answer}
 use Rattle.chop_top.specs.declared.top.Status.{Status}
 use Rattle.chop_top.specs.declared.top.Status.TheVariants.{Done, Usage, Refused, Memory, ReadFault, WriteFault}
 use Rattle.chop_top.specs.Accepted.{Reads}
-use Rattle.chop_top.specs.Refusals.{IsUnaccepted, IsRefusalOf, HasTarget, IsKnown, IsUnknown, no_function, no_location}
+use Rattle.chop_top.specs.Refusals.{IsRefusalOf, HasTarget, IsKnown, IsUnknown, no_function, no_location}
 use Rattle.chop_top.proofs.OneText.{one-program, not-unaccepted}
 use Rattle.report.specs.Reports.{IsReport}
-use Rattle.chop_top.specs.Outcomes.{limit, exploration, Reading, IsTooLarge, OfFile, IsAccepted, IsComplete, IsDoneOf, Outcome, Judged, text_or_memory}
+use Rattle.chop_top.specs.Outcomes.{limit, exploration, Reading, IsTooLarge, OfFile, IsAccepted, IsComplete, Outcome, Judged, text_or_memory}
 
 -- the report of the program that the bytes are the text of
 pub judged-report : (bytes file : List ℕ) (o : Options) (p : ProgramData) (written : Result (Vec ℕ Global) AllocError) (answer : Answer) → Reads bytes p → IfOk written (λ w. IsReport p (exploration o) w.items) → answer ≡ text_or_memory Done written → Judged answer (Explored o file) bytes
@@ -30,19 +30,6 @@ judged-report bytes file o p (Ok w) answer reads told is = subst (λ a. Judged a
   report = told.report;
 })
 judged-report bytes file o p (Err e) answer reads told is = subst (λ a. Judged a (Explored o file) bytes) (sym is) tt
-
--- a text that does what is wanted of the bytes
-pub judged-done : (asked : Wanted) (bytes : List ℕ) (written : Result (Vec ℕ Global) AllocError) (answer : Answer) → IfOk written (λ w. IsDoneOf asked bytes w.items) → answer ≡ text_or_memory Done written → Judged answer asked bytes
-judged-done asked bytes (Ok w) answer done is = subst (λ (a : Answer). Judged a asked bytes) (sym is) done
-judged-done asked bytes (Err e) answer done is = subst (λ (a : Answer). Judged a asked bytes) (sym is) tt
-
--- bytes that are the text of no program are refused, whatever is wanted of them
-pub refuses : (asked : Wanted) (bytes written : List ℕ) → IsUnaccepted bytes written → IsRefusalOf asked bytes written
-refuses (Explored options file) bytes written unaccepted = unaccepted
-refuses (Ran input steps file) bytes written unaccepted = unaccepted
-refuses (Printed file) bytes written unaccepted = unaccepted
-refuses (Sited file) bytes written unaccepted = unaccepted
-refuses (Sliced file function location) bytes written unaccepted = inl unaccepted
 
 -- a file holds what it is told to hold
 told-holds : (named : Option Named) (name read bytes : List ℕ) → Holds named name read → contents_of named name ≡ Some bytes → read ≡ bytes

@@ -2,15 +2,13 @@
 ghost use Rattle.std.specs.Prelude.{◌≡◌, ℕ, ◌<◌, ◌≤◌, ◌-◌, ◌^◌, None, Some, List, map, length, string_bytes, IfOk};
 ghost use Rattle.checks.specs.Errors.{IsChecked};
 ghost use Rattle.chop_words.specs.Words.{AreInRange, IsInRange, Explored, Ran, Printed, Sited, Sliced, wanted, wanted_by};
-ghost use Rattle.flat_ir.specs.declared.program.ProgramData.{ProgramData};
-ghost use Rattle.chop_top.specs.Accepted.{IsTextOf, Reads};
+ghost use Rattle.chop_top.specs.Accepted.{Reads};
 ghost use Rattle.chop_top.specs.Outcomes.{Reading, Outcome, IsComplete, Answered, Judged, Text, limit, exploration, IsLine, text_or_memory};
 
 use crate::accepting::{Stop, accepted};
 use chop_outside::{Fault, Files, Gate, ReadError, Sink, read_whole, write_whole};
 use chop_words::{Command, Options, UsageError, read_words, usage_line};
 use flat_ir::Program;
-use ir_tree::module::IrTree;
 use ir_tree::printing::print;
 use refusal_lines::refused_line;
 use report::report_text;
@@ -90,26 +88,67 @@ fn explored_program(alloc: Global, program: &Program, options: Options) -> Answe
     text_or_memory(Status::Done, report_text(alloc, program, exploration))
 }
 
-// The line of the run of a program on an input.
-fn ran_program(alloc: Global, program: &Program, input: &[u8], steps: u64) -> Answer
-    requires { IsChecked program.now.funcs }
-    ensures { (bytes file : List ℕ) → Reads bytes program.now → Judged result (Ran input.now steps file) bytes }
+// The report of the program of a file's bytes, or the line that says why there is none.
+fn explored(alloc: Global, bytes: &[u8], options: Options) -> Answer
+    requires short { length bytes.now ≤ limit }
+    requires range { AreInRange options }
+    ensures { (file : List ℕ) → Judged result (Explored options file) bytes.now }
 {
-    text_or_memory(Status::Done, run_text(alloc, program, input, steps))
+    match accepted(alloc, bytes) {
+        Ok((_, program)) => explored_program(alloc, &program, options),
+        Err(Stop::Line(text)) => Answer::Text {
+            status: Status::Refused,
+            text,
+        },
+        Err(Stop::Memory) => Answer::Memory,
+    }
 }
 
-// The text of a module.
-fn printed_tree(alloc: Global, tree: &IrTree) -> Answer
-    ensures { (bytes file : List ℕ) (program : ProgramData) → IsTextOf bytes tree.now program → Judged result (Printed file) bytes }
+// The line of the run of a file's program on an input, or the line that says why there is none.
+fn ran(alloc: Global, bytes: &[u8], input: &[u8], steps: u64) -> Answer
+    requires { length bytes.now ≤ limit }
+    ensures { (file : List ℕ) → Judged result (Ran input.now steps file) bytes.now }
 {
-    text_or_memory(Status::Done, print(alloc, tree))
+    match accepted(alloc, bytes) {
+        Ok((_, program)) => {
+            text_or_memory(Status::Done, run_text(alloc, &program, input, steps))
+        }
+        Err(Stop::Line(text)) => Answer::Text {
+            status: Status::Refused,
+            text,
+        },
+        Err(Stop::Memory) => Answer::Memory,
+    }
 }
 
-// The lines of the sites and functions of a program.
-fn sited_program(alloc: Global, program: &Program) -> Answer
-    ensures { (bytes file : List ℕ) → Reads bytes program.now → Judged result (Sited file) bytes }
+// The text of the module of a file's bytes, or the line that says why there is none.
+fn printed(alloc: Global, bytes: &[u8]) -> Answer
+    requires { length bytes.now ≤ limit }
+    ensures { (file : List ℕ) → Judged result (Printed file) bytes.now }
 {
-    text_or_memory(Status::Done, sites_text(alloc, program))
+    match accepted(alloc, bytes) {
+        Ok((tree, _)) => text_or_memory(Status::Done, print(alloc, &tree)),
+        Err(Stop::Line(text)) => Answer::Text {
+            status: Status::Refused,
+            text,
+        },
+        Err(Stop::Memory) => Answer::Memory,
+    }
+}
+
+// The lines of the sites and functions of a file's program, or the line that says why there are none.
+fn sited(alloc: Global, bytes: &[u8]) -> Answer
+    requires { length bytes.now ≤ limit }
+    ensures { (file : List ℕ) → Judged result (Sited file) bytes.now }
+{
+    match accepted(alloc, bytes) {
+        Ok((_, program)) => text_or_memory(Status::Done, sites_text(alloc, &program)),
+        Err(Stop::Line(text)) => Answer::Text {
+            status: Status::Refused,
+            text,
+        },
+        Err(Stop::Memory) => Answer::Memory,
+    }
 }
 
 // The lines of the slice of a program's function for a location, or that a word names nothing.
@@ -126,41 +165,37 @@ fn sliced_program(alloc: Global, program: &Program, function: &str, location: &s
     }
 }
 
-// What a command tells of the tree and the program of a file.
-fn told(alloc: Global, command: &Command, tree: &IrTree, program: &Program) -> Answer
-    requires range { IsInRange (wanted_by command.now) }
-    requires checked { IsChecked program.now.funcs }
-    ensures { (bytes : List ℕ) → IsTextOf bytes tree.now program.now → Judged result (wanted_by command.now) bytes }
-{
-    match command {
-        Command::Explore { options, .. } => explored_program(alloc, program, *options),
-        Command::Run { input, steps, .. } => {
-            ran_program(alloc, program, input.as_slice(), *steps)
-        }
-        Command::Print { .. } => printed_tree(alloc, tree),
-        Command::Sites { .. } => sited_program(alloc, program),
-        Command::Slice {
-            function,
-            location,
-            ..
-        } => sliced_program(alloc, program, function.as_str(), location.as_str()),
-    }
-}
-
-// What the bytes of a file come to.
-#[tactic(auto, using(crate::proofs::Answering::refuses))]
-fn judged(alloc: Global, command: &Command, bytes: &[u8]) -> Answer
-    requires short { length bytes.now ≤ limit }
-    requires range { IsInRange (wanted_by command.now) }
-    ensures { Judged result (wanted_by command.now) bytes.now }
+// The lines of the slice of a file's program, or the line that says why there are none.
+fn sliced(alloc: Global, bytes: &[u8], function: &str, location: &str) -> Answer
+    requires { length bytes.now ≤ limit }
+    ensures { (file : List ℕ) → Judged result (Sliced file function.now location.now) bytes.now }
 {
     match accepted(alloc, bytes) {
-        Ok((tree, program)) => told(alloc, command, &tree, &program),
+        Ok((_, program)) => sliced_program(alloc, &program, function, location),
         Err(Stop::Line(text)) => Answer::Text {
             status: Status::Refused,
             text,
         },
         Err(Stop::Memory) => Answer::Memory,
+    }
+}
+
+// What the bytes of a file come to.
+fn judged(alloc: Global, command: &Command, bytes: &[u8]) -> Answer
+    requires short { length bytes.now ≤ limit }
+    requires range { IsInRange (wanted_by command.now) }
+    ensures { Judged result (wanted_by command.now) bytes.now }
+{
+    match command {
+        Command::Explore { options, .. } => explored(alloc, bytes, *options),
+        Command::Run { input, steps, .. } => ran(alloc, bytes, input.as_slice(), *steps),
+        Command::Print { .. } => printed(alloc, bytes),
+        Command::Sites { .. } => sited(alloc, bytes),
+        Command::Slice {
+            function,
+            location,
+            ..
+        } => sliced(alloc, bytes, function.as_str(), location.as_str()),
     }
 }
 

@@ -7,31 +7,18 @@ use Rattle.cnf.specs.Cnf.{Cnf, IsBelow, lists_of}
 use Rattle.gates.specs.Clauses.{formula_of, order_of}
 use Rattle.search.specs.declared.Answer.{Answer}
 use Rattle.search.specs.declared.Answer.TheVariants.{Model, Refuted}
-use Rattle.search.specs.declared.Answer.TheVariants as answered
 use Rattle.search.specs.Verdict.{verdict, verdict_of}
 use Rattle.terms.specs.Tree.{Tree}
 use Rattle.term_bits.specs.Conditions.{condition_bits}
 use Rattle.condition_verdicts.specs.Inputs.{found_input}
 use Rattle.decider.specs.Decided.{answer_of, decided}
-use Rattle.decider.specs.declared.Verdict.TheVariants.{Sat, Unsat, Spent}
+use Rattle.decider.specs.declared.Verdict.TheVariants.{Sat}
 use Rattle.decider.proofs.LogLemmas.{log_below}
 
 module _ (f : Cnf) (order : List ℕ) (budget : ℕ) (answer : Answer) (is : verdict_of answer ≡ verdict f order budget) where
   pub model_decides : (c : List Tree) (inputs : ℕ) (values : Vec Bool Global) (seen : List Bool) (bytes : List ℕ) → f ≡ formula_of (condition_bits c) → order ≡ order_of (condition_bits c) → answer ≡ Model values → seen ≡ values.items → bytes ≡ take inputs (found_input c seen) → Sat bytes ≡ decided c inputs budget
   model_decides c inputs values seen bytes formula_is order_is model same found =
       ap Sat (found ∙ ap (λ x. take inputs (found_input c x)) same) ∙ ap (answer_of c inputs) (ap verdict_of (sym model) ∙ is ∙ ap (λ x. verdict x order budget) formula_is ∙ ap (λ x. verdict (formula_of (condition_bits c)) x budget) order_is)
-
-  same_verdict : (c : List Tree) → f ≡ formula_of (condition_bits c) → order ≡ order_of (condition_bits c) → verdict_of answer ≡ verdict (formula_of (condition_bits c)) (order_of (condition_bits c)) budget
-  same_verdict c formula_is order_is =
-      is ∙ ap (λ x. verdict x order budget) formula_is ∙ ap (λ x. verdict (formula_of (condition_bits c)) x budget) order_is
-
-  pub refuted_decides : (c : List Tree) (inputs : ℕ) (log : Vec (Vec Lit Global) Global) → f ≡ formula_of (condition_bits c) → order ≡ order_of (condition_bits c) → answer ≡ Refuted log → Unsat ≡ decided c inputs budget
-  refuted_decides c inputs log formula_is order_is refuted =
-      ap (answer_of c inputs) (ap verdict_of (sym refuted) ∙ same_verdict c formula_is order_is)
-
-  pub spent_decides : (c : List Tree) (inputs : ℕ) → f ≡ formula_of (condition_bits c) → order ≡ order_of (condition_bits c) → answer ≡ answered.Spent → Spent ≡ decided c inputs budget
-  spent_decides c inputs formula_is order_is spent =
-      ap (answer_of c inputs) (ap verdict_of (sym spent) ∙ same_verdict c formula_is order_is)
 
   pub log_within : (whole : List ℕ) (log : Vec (Vec Lit Global) Global) (seen : List (Vec Lit Global)) → order ≡ whole → All (λ v. v < f.vars) whole → answer ≡ Refuted log → seen ≡ log.items → IsBelow f.vars (lists_of seen)
   log_within whole log seen order_is low refuted same =

@@ -167,11 +167,6 @@ module _ (c : List Tree) (values : List Bool) where
 
 -- the places of the bits
 
-pub paired : (c : List Tree) (order : List ℕ) (bits : List (ℕ × ℕ)) → AreInputsOf c order bits → length order ≡ length bits
-paired c order bits names =
-    let ks = inputs_of (condition_bits c) in
-    ap length names.order_is ∙ length-map ks (λ k. number_of (names_of (condition_bits c)) (input k)) ∙ sym (ap length names.bits_are ∙ length-map ks position)
-
 places_below : (p : ℕ → Bool) (n a : ℕ) → a + n ≤ 512 → AllByRecursion IsPlace (map position (filter p (range_with_len a n)))
 places_below p zero a h = tt
 places_below p (suc n) a h =

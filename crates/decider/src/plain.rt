@@ -1,16 +1,11 @@
-ghost use Rattle.std.specs.Prelude.{◌≡◌, ◌<◌, ◌≤◌, List, All, IfOk, length};
+ghost use Rattle.std.specs.Prelude.{◌≡◌, IfOk};
 ghost use Rattle.cnf.specs.Cnf.{IsBelow, lists_of};
 ghost use Rattle.cnf.specs.Rup.{IsRefutation};
-ghost use Rattle.gates.specs.Clauses.{formula_of};
-ghost use Rattle.terms.specs.Tree.{Tree};
-ghost use Rattle.term_bits.specs.Conditions.{condition_bits};
-ghost use Rattle.decider.specs.Decided.{decided};
-ghost use Rattle.decider.specs.Found.{AreInputsOf, IsPlace};
 ghost use Rattle.decider.specs.declared.Verdict.TheVariants.{Unsat};
 
 use crate::found::found_input;
 use crate::{Decide, Verdict};
-use bit_gates::{Blasted, clauses_of};
+use bit_gates::clauses_of;
 use cnf::{Clause, Formula};
 use places::Home;
 use refutation::{Checked, Prepared};
@@ -31,32 +26,14 @@ impl Decide for Plain {
         budget: u64,
     ) -> Result<Verdict, AllocError> {
         let blasted = clauses_of(alloc, condition)?;
-        searched(alloc, &blasted, inputs, budget)
-    }
-}
-
-/// What a search of the clauses says of inputs of so many bytes.
-fn searched(
-    alloc: Global,
-    blasted: &Blasted,
-    inputs: u8,
-    budget: u64,
-) -> Result<Verdict, AllocError>
-    requires variables { IsBelow blasted.now.formula.vars blasted.now.formula.clauses }
-    requires order { All (λ v. v < blasted.now.formula.vars) blasted.now.order.items }
-    requires paired { length blasted.now.order.items ≡ length blasted.now.bits.items }
-    requires places { All IsPlace blasted.now.bits.items }
-    requires inputs { inputs ≤ 64 }
-    requires budget { 1 ≤ budget }
-    ensures { (c : List Tree) → blasted.now.formula ≡ formula_of (condition_bits c) → AreInputsOf c blasted.now.order.items blasted.now.bits.items → IfOk result (λ verdict. verdict ≡ decided c inputs budget) }
-{
-    match search(alloc, &blasted.formula, &blasted.order, budget)? {
-        Answer::Model(values) => {
-            let input = found_input(alloc, blasted, &values, inputs)?;
-            Ok(Verdict::Sat(input))
+        match search(alloc, &blasted.formula, &blasted.order, budget)? {
+            Answer::Model(values) => {
+                let input = found_input(alloc, &blasted, &values, inputs)?;
+                Ok(Verdict::Sat(input))
+            }
+            Answer::Refuted(log) => checked(alloc, &blasted.formula, &log),
+            Answer::Spent => Ok(Verdict::Spent),
         }
-        Answer::Refuted(log) => checked(alloc, &blasted.formula, &log),
-        Answer::Spent => Ok(Verdict::Spent),
     }
 }
 

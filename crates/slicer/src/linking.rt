@@ -6,7 +6,7 @@ ghost use Rattle.flow.specs.Flow.{reads};
 ghost use Rattle.mod_ref.specs.Changes.{is_malloc_site as is_made};
 ghost use Rattle.slicer.specs.Links as spec;
 ghost use Rattle.slicer.specs.declared.marks.Mark.TheVariants as mark;
-ghost use Rattle.slices.specs.Nodes as nodes;
+ghost use Rattle.slices.specs.Nodes.{read_through as reads_at, used_alive as needs_alive};
 
 use crate::marks::{Link, Mark};
 use crate::nodes::{call_result, is_return, read_through, reads_input, used_alive};
@@ -244,7 +244,7 @@ fn cells_read(
     func: FuncId,
     node: &Node,
 ) -> Result<Sequence<Mark>, AllocError>
-    ensures { IfOk result (λ marks. marks ≡ spec.cells_of (spec.sites_if sets.now func (nodes.read_through node.now))) }
+    ensures { IfOk result (λ marks. marks ≡ spec.cells_of (spec.sites_if sets.now func (reads_at node.now))) }
 {
     let cells = sites_if(alloc, sets, func, read_through(node))?;
     cells_of(alloc, cells.as_slice())
@@ -257,7 +257,7 @@ fn lives_needed(
     func: FuncId,
     node: &Node,
 ) -> Result<Sequence<Mark>, AllocError>
-    ensures { IfOk result (λ marks. marks ≡ spec.lives_of (flat_map (spec.sites_of sets.now func) (nodes.used_alive node.now))) }
+    ensures { IfOk result (λ marks. marks ≡ spec.lives_of (flat_map (spec.sites_of sets.now func) (needs_alive node.now))) }
 {
     let pointers = used_alive(alloc, node)?;
     let alive = sites_of_all(alloc, sets, func, pointers.as_slice())?;

@@ -48,7 +48,7 @@ fn excluding(rt: &impl Abort, alloc: Global, allowed: usize, budget: u64) -> Res
 fn refutes_with_a_log(rt: HostRuntime) -> Result<(), Fail> {
     match excluding(&rt, rt.alloc(), 0, 3)? {
         Answer::Refuted(log) => {
-            assert!(rt; log.len() == 3);
+            assert_eq!(rt; log.len(), 3);
             assert!(rt; log[0].as_slice() == [lit(0, true)].as_slice());
             assert!(rt; log[1].as_slice() == [lit(0, false)].as_slice());
             assert!(rt; log[2].is_empty());

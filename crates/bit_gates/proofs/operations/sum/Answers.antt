@@ -1,7 +1,7 @@
 use Rattle.std.proofs.Common.{false, ap, ap₂, ◌∙◌}
 use Rattle.gates.specs.Bits.{constant}
 use Rattle.nodes.specs.Names.{bits_at}
-use Rattle.nodes.proofs.GrowthLemmas.{all_stay, made, all_within, grown_on}
+use Rattle.nodes.proofs.GrowthLemmas.{all_stay, made}
 use Rattle.rows.specs.Rows.{added}
 use Rattle.bit_gates.proofs.operations.sum.Goals as goal
 
@@ -13,15 +13,3 @@ returns-clause-bits c =
     let xs = c.args.xs.now in
     let ys = c.args.ys.now in
     made c.added.result (λ row. bits_at c.added.new.table row.items) _ _ c.added.ensures.bits (ap (λ b. added b (bits_at one xs) (bits_at one ys)) c.in_ok-zero.ensures.bit ∙ ap₂ (added (constant false)) (all_stay old one grown xs c.requires.left) (all_stay old one grown ys c.requires.right))
-
-pub added-requires-clause-left : goal.added-requires-clause-left
-added-requires-clause-left c =
-    all_within c.args.table.now c.constant.new.self c.constant.ensures.grows c.args.xs.now c.requires.left
-
-pub added-requires-clause-right : goal.added-requires-clause-right
-added-requires-clause-right c =
-    all_within c.args.table.now c.constant.new.self c.constant.ensures.grows c.args.ys.now c.requires.right
-
-pub returns-clause-grows : goal.returns-clause-grows
-returns-clause-grows c =
-    grown_on c.added.result c.args.table.now c.constant.new.self c.added.new.table c.constant.ensures.grows c.added.ensures.grows

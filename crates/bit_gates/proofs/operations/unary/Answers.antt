@@ -23,8 +23,3 @@ returns-in-Byte-clause-bits c =
     let table = c.args.table.now in
     let xs = c.args.xs.now in
     IfOk-weaker c.byte.result _ _ (λ row e. ap (bits_at table) e ∙ byte_at_bits table xs c.from-in-Byte.result ∙ ap (λ j. take 8 (drop (8 * j) (bits_at table xs))) c.from-in-Byte.ensures ∙ ap (λ op. bits_of_one op (bits_at table xs)) (sym c.in-Byte.is)) c.byte.ensures
-
-pub returns-in-Trunc-clause-within : goal.returns-in-Trunc-clause-within
-returns-in-Trunc-clause-within c =
-    let table = c.args.table.now in
-    IfOk-weaker c.taken.result _ _ (λ row e. subst (AreWithin table) (sym e) (within_take table c.from.result c.args.xs.now c.requires.row)) c.taken.ensures
