@@ -15,6 +15,3 @@ same-result-4 g c = refl
 
 pub same-result-5 : goal.same-result-5
 same-result-5 g c = refl
-
-pub same-result-6 : goal.same-result-6
-same-result-6 g c = refl
