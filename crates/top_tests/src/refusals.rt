@@ -3,7 +3,7 @@ use crate::running::{Row, all_end};
 use chop_top::Status;
 use std::test::Fail;
 
-const REFUSED: [Row; 43] = [
+const REFUSED: [Row; 44] = [
     (
         "print F",
         "define i32 @main() { ret i32 %a }",
@@ -164,6 +164,11 @@ const REFUSED: [Row; 43] = [
         "print F",
         "define i32 @main() { %a = add i8 1, 1 ret i32 %a }",
         "refused TypeClash main:1\n",
+    ),
+    (
+        "print F",
+        "define i32 @main() { ret i32 null }",
+        "refused TypeClash main:0\n",
     ),
     (
         "print F",
