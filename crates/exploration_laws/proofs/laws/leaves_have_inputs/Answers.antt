@@ -1,0 +1,9 @@
+use Rattle.exploration_laws.proofs.Attempts.{attempts-have}
+use Rattle.exploration_laws.proofs.Evaluations.{evaluations-have}
+use Rattle.exploration_laws.proofs.laws.leaves_have_inputs.Goals as goal
+
+pub returns-clause-attempts : goal.returns-clause-attempts
+returns-clause-attempts c = attempts-have
+
+pub returns-clause-leaves : goal.returns-clause-leaves
+returns-clause-leaves c = evaluations-have
