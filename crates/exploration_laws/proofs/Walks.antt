@@ -19,27 +19,28 @@ use Rattle.flat_ir.specs.declared.values.FaultKind.{FaultKind}
 use Rattle.flat_ir.specs.declared.values.FaultKind.TheVariants as fault
 use Rattle.flat_ir.specs.Machine.{type_at}
 use Rattle.flat_ir.specs.Registers.{bytes_of_type}
-use Rattle.flat_ir.specs.Steps.{made_by_malloc}
+use Rattle.flat_ir.specs.Steps.{made_by_malloc, width_of}
 use Rattle.flat_ir.specs.Whole.{operands_of_part}
 use Rattle.sym_bytes.specs.declared.names.Base.{Base}
 use Rattle.sym_bytes.specs.declared.names.Base.TheVariants.{Null, Object}
 use Rattle.sym_bytes.specs.declared.names.CallId.{CallId}
 use Rattle.sym_bytes.specs.Answers.{Living, Alive, Dead, Byte, Undecided, Want, Join}
 use Rattle.sym_bytes.specs.Answers as answers
-use Rattle.sym_bytes.specs.Building.{behind, null}
+use Rattle.sym_bytes.specs.Building.{behind, null, pointer_to, wide}
 use Rattle.sym_bytes.specs.Byte.{SymByte}
+use Rattle.sym_bytes.specs.Entry as entry
 use Rattle.sym_bytes.specs.Entry.{Entry}
 use Rattle.sym_bytes.specs.Pointers.{Pointer}
 use Rattle.sym_bytes.specs.Value.{SymValue, Int, Ptr, Pending}
-use Rattle.log_laws.specs.Logs.{Log, Did, Marked, life, lies_in, entries_in, entries_since}
+use Rattle.log_laws.specs.Logs.{Log, Did, Marked, life, position, lies_in, entries_in, entries_since}
 use Rattle.log_laws.specs.Needs.{need, location_of}
 use Rattle.log_laws.specs.Reading.{read_byte}
 use Rattle.leaves.specs.declared.options.Cause.TheVariants.{Steps}
 use Rattle.sym_states.specs.declared.frames.Target.{Target}
-use Rattle.sym_states.specs.Attempts.{knows, firm, faulted, fails_in, fails, passed, must, Reached, reached, access_alive, access_base, access, ReadBytes, either_way, read_on, read_one, before, read_all, reads, Valued, valued, joins, join_read, loaded, loads, writes, copies, frees_object, frees_made, frees_alive, frees_base, frees, divides_by, divides_signed, divides, gives_term, picks, selects, mallocs, enters, skips, is_skipped, calls, took, ended, completed, completes, if_result, ends_first, leaves_to, ends_frame, is_main_end, returns, exits, computes, chooses, asks_memory, loads_at, stores_at, copies_from, takes_input, puts, branches, switches, executes}
+use Rattle.sym_states.specs.Attempts.{knows, firm, faulted, fails_in, fails, passed, must, Reached, reached, access_alive, access_base, access, ReadBytes, either_way, read_on, read_one, before, read_all, reads, Valued, valued, joins, join_read, loaded, loads, writes, copies, frees_object, frees_made, frees_alive, frees_base, frees, divides_by, divides_signed, divides, gives_term, compares, casts, places, picks, selects, mallocs, enters, skips, is_skipped, calls, took, ended, completed, completes, if_result, ends_first, leaves_to, ends_frame, is_main_end, returns, exits, computes, chooses, asks_memory, loads_at, stores_at, copies_from, takes_input, puts, branches, switches, executes}
 use Rattle.sym_states.specs.Sides.{Tested, Good, Bad, Answered, test}
-use Rattle.sym_states.specs.States.{Frame, State, Context, Step, Flow, On, Over, then_flow, then_step, unless_needed, in_frame, counted, set_if, gives, goes_on, place_after, place_first}
-use Rattle.sym_states.specs.Terms.{value_in, number_in, address_in, pending_in, term_in, calculated, chosen, set_all, is_within, is_start, is_nonzero, has_quotient, is_small, size_in, truth_of, branch_sides, switch_sides, byte_resolved, joined_as, bytes_of_value, stored_bytes}
+use Rattle.sym_states.specs.States.{Frame, State, Context, Step, Flow, On, Over, then_flow, then_step, unless_needed, in_frame, appended, made_now, counted, set_if, gives, goes_on, place_after, place_first}
+use Rattle.sym_states.specs.Terms.{value_in, number_in, address_in, pending_in, term_in, calculated, compared_values, cast_to, moved_by_all, input_at, chosen, set_all, is_within, is_start, is_nonzero, has_quotient, is_small, size_in, truth_of, branch_sides, switch_sides, byte_resolved, joined_as, bytes_of_value, stored_bytes}
 use Rattle.exploration_laws.specs.Falls.{IsPlacedIn}
 use Rattle.exploration_laws.specs.Has.{IsOutside, ResultLiesIn, DoneLiesIn}
 use Rattle.exploration_laws.proofs.Givers.{Giver, IsFrom, StepIsFrom, FlowIsFrom, TestedIsFrom, IsTakenFrom, opens-from, test-from, choose_way-from}
@@ -304,12 +305,14 @@ module _ (c : Context) (g : Giver) (moves : (k : ℕ) (frame : Frame) → IsPlac
 
   pub executes-from : (x : Node) (s : State) → IsFrom g s → StepIsFrom g (executes c x s)
   executes-from (node.Bin o a b result next) s from = after-firm (a ∷ b ∷ []) s (computes c o a b result) from (computes-from o a b result s from)
-  executes-from (node.Cmp p a b result next) s from = after-firm (a ∷ b ∷ []) s _ from (gives-from (Some result) _ s from)
-  executes-from (node.Cast o a result next) s from = after-firm (a ∷ []) s _ from (gives-from (Some result) _ s from)
-  executes-from (node.Gep base parts result next) s from = after-firm (base ∷ flat_map operands_of_part parts) s _ from (gives-from (Some result) _ s from)
+  executes-from (node.Cmp p a b result next) s from = after-firm (a ∷ b ∷ []) s (compares c p a b result) from (gives_term-from result (compared_values p (value_in s a) (value_in s b)) s from)
+  executes-from (node.Cast o a result next) s from = after-firm (a ∷ []) s (casts c o a result) from (gives_term-from result (cast_to o (width_of (type_at c.program s.frame.func result)) (number_in s a)) s from)
+  executes-from (node.Gep base parts result next) s from = 
+      after-firm (base ∷ flat_map operands_of_part parts) s (places c base parts result) from
+      (gives-from (Some result) (Some (Ptr (record { base = (address_in s base).base; offset = moved_by_all s (address_in s base).offset parts }))) s from)
   executes-from (node.Select condition a b result next) s from =
       after-firm (condition ∷ a ∷ b ∷ []) s (chooses c condition a b result) from (selects-from result (number_in s condition) (value_in s a) (value_in s b) s from)
-  executes-from (node.Alloca size result next) s from = gives-from (Some result) _ s from
+  executes-from (node.Alloca size result next) s from = gives-from (Some result) (Some (pointer_to (made_now s.frame) 0)) (appended (entry.Alloc (made_now s.frame) (wide size)) s) from
   executes-from (node.Malloc size result next) s from = after-firm (size ∷ []) s (asks_memory c size result) from (asks_memory-from size result s from)
   executes-from (node.Free pointer next) s from =
       after-firm (pointer ∷ []) s (λ u. frees c (address_in u pointer) u) from (frees_base-from (address_in s pointer).base (address_in s pointer).offset s from)
@@ -317,7 +320,8 @@ module _ (c : Context) (g : Giver) (moves : (k : ℕ) (frame : Frame) → IsPlac
       after-firm (pointer ∷ []) s (λ u. loads_at c pointer result (type_at c.program u.frame.func result) u) from (loads_at-from pointer result (type_at c.program s.frame.func result) s from)
   executes-from (node.Store value pointer next) s from = after-firm (pointer ∷ []) s (stores_at c value pointer) from (stores_at-from value pointer s from)
   executes-from (node.Copy source there next) s from = after-firm (source ∷ there ∷ []) s (copies_from c source there) from (copies_from-from source there s from)
-  executes-from (node.In result next) s from = after-known answers.Input s (takes_input c result) from (gives-from (Some result) _ s from)
+  executes-from (node.In result next) s from = 
+      after-known answers.Input s (takes_input c result) from (gives-from (Some result) (Some (Int (input_at (length s.kept) (position s.memory.log)))) (appended entry.Get s) from)
   executes-from (node.Put value next) s from = after-firm (value ∷ []) s (puts c value) from (goes_on-from s from)
   executes-from (node.Call callee args result next) s from = calls-from callee (map (value_in s) args) result s from
   executes-from (node.Moves sets next) s from = (from.0, (from.1.0, (from.1.1.0, moves 0 (counted (set_all s sets s.frame)))))
