@@ -307,7 +307,7 @@ module _ (c : Context) (g : Giver) (moves : (k : ℕ) (frame : Frame) → IsPlac
   executes-from (node.Bin o a b result next) s from = after-firm (a ∷ b ∷ []) s (computes c o a b result) from (computes-from o a b result s from)
   executes-from (node.Cmp p a b result next) s from = after-firm (a ∷ b ∷ []) s (compares c p a b result) from (gives_term-from result (compared_values p (value_in s a) (value_in s b)) s from)
   executes-from (node.Cast o a result next) s from = after-firm (a ∷ []) s (casts c o a result) from (gives_term-from result (cast_to o (width_of (type_at c.program s.frame.func result)) (number_in s a)) s from)
-  executes-from (node.Gep base parts result next) s from = 
+  executes-from (node.Gep base parts result next) s from =
       after-firm (base ∷ flat_map operands_of_part parts) s (places c base parts result) from
       (gives-from (Some result) (Some (Ptr (record { base = (address_in s base).base; offset = moved_by_all s (address_in s base).offset parts }))) s from)
   executes-from (node.Select condition a b result next) s from =
@@ -320,7 +320,7 @@ module _ (c : Context) (g : Giver) (moves : (k : ℕ) (frame : Frame) → IsPlac
       after-firm (pointer ∷ []) s (λ u. loads_at c pointer result (type_at c.program u.frame.func result) u) from (loads_at-from pointer result (type_at c.program s.frame.func result) s from)
   executes-from (node.Store value pointer next) s from = after-firm (pointer ∷ []) s (stores_at c value pointer) from (stores_at-from value pointer s from)
   executes-from (node.Copy source there next) s from = after-firm (source ∷ there ∷ []) s (copies_from c source there) from (copies_from-from source there s from)
-  executes-from (node.In result next) s from = 
+  executes-from (node.In result next) s from =
       after-known answers.Input s (takes_input c result) from (gives-from (Some result) (Some (Int (input_at (length s.kept) (position s.memory.log)))) (appended entry.Get s) from)
   executes-from (node.Put value next) s from = after-firm (value ∷ []) s (puts c value) from (goes_on-from s from)
   executes-from (node.Call callee args result next) s from = calls-from callee (map (value_in s) args) result s from

@@ -1,5 +1,5 @@
 -- The combinations of leaves of a merge split the inputs of the suspended state, and keep the least ones.
-use Rattle.std.proofs.Common.{◌≡◌, ℕ, Bool, true, false, ◌+◌, ◌-◌, ◌&&◌, ◌||◌, ◌==◌, List, [], ◌∷◌, ◌++◌, length, drop, Option, Some, None, refl, sym, ◌∙◌, ap, subst, arith, zero-add, add_assoc, inl, inr, ◌⊎◌}
+use Rattle.std.proofs.Common.{◌≡◌, ℕ, Bool, true, false, ◌+◌, ◌≤◌, ◌&&◌, ◌||◌, ◌==◌, zero, suc, List, [], ◌∷◌, ◌++◌, length, drop, Option, Some, None, refl, sym, ◌∙◌, ap, subst, arith, zero-add, add_assoc, inl, inr, ◌⊎◌}
 use Rattle.std.specs.Prelude.{cond, nat_lt, IfSome}
 use Rattle.std.specs.List.{AllByRecursion as Each, flat_map}
 use Rattle.std.proofs.lemmas.Bool.{eqb-true, false≢true}
@@ -23,7 +23,7 @@ use Rattle.sym_states.proofs.Widths.{terms-append}
 use Rattle.state_laws.specs.Explored.{LeavesFitAt}
 use Rattle.state_laws.specs.Kept.{LeafFitsAt}
 use Rattle.state_laws.proofs.States.{parts_of}
-use Rattle.state_laws.proofs.Merged.{SizeIf, PartialFits, TermsFitIf, add_all-fits, terms-drop, combined_all-fits, PartialsFit, first-fits}
+use Rattle.state_laws.proofs.Merged.{SizeIf, PartialFits, TermsFitIf, add_all-fits, combined_all-fits, PartialsFit, first-fits}
 use Rattle.right_leaves.specs.Right.{IsLeast}
 use Rattle.exploration_laws.specs.Begins.{BeginsWith, condition_of, LeavesBegin}
 use Rattle.exploration_laws.proofs.Givers.{begins-same}
@@ -68,6 +68,11 @@ add_all-adds n known (t ∷ ts) h k =
           (add_all-adds n (known ++ t ∷ []) ts (terms-append n 1 known (t ∷ []) h (k.0, tt)) k.1))
     ]
     refl
+
+terms-drop : (n w k : ℕ) (ts : List Tree) → AreTermsOf n w ts → AreTermsOf n w (drop k ts)
+terms-drop n w zero ts h = h
+terms-drop n w (suc k) [] h = tt
+terms-drop n w (suc k) (t ∷ ts) h = terms-drop n w k ts h.1
 
 -- ---- combinations
 
@@ -264,7 +269,7 @@ module _ (n : ℕ) (c : Context) (first : List Tree) (right : IsRightContext n c
   folded-right : (s : State) (lists : List (List Leaf)) (ps : List Partial) → s.condition ≡ first → Each (LeavesSplit n first) lists → PartialsAreRight n first ps → FoldedIsRight (folded c s lists ps) ps
   folded-right s [] ps same splits h = (h, λ i is. refl)
   folded-right s (ls ∷ lists) ps same splits h =
-      subst (λ root. FoldedIsRight (elim (nat_lt s.shares (length (flat_map (combined_all c (length root) ls) ps))) [ true ↦ None | false ↦ folded c s lists (flat_map (combined_all c (length root) ls) ps) ]) ps) (sym same)
+      subst (λ (root : List Tree). FoldedIsRight (elim (nat_lt s.shares (length (flat_map (combined_all c (length root) ls) ps))) [ true ↦ None | false ↦ folded c s lists (flat_map (combined_all c (length root) ls) ps) ]) ps) (sym same)
       (elim (nat_lt s.shares (length (flat_map (combined_all c (length first) ls) ps))) as (λ b. FoldedIsRight (elim b [ true ↦ None | false ↦ folded c s lists (flat_map (combined_all c (length first) ls) ps) ]) ps) [
         | true ↦ tt
         | false ↦ folded-from (folded c s lists (flat_map (combined_all c (length first) ls) ps)) (flat_map (combined_all c (length first) ls) ps) ps

@@ -75,7 +75,7 @@ root-least e n s at (Some shot) h = h
 
 pub roots-least : RootsKeepLeast
 roots-least e n s [] h = tt
-roots-least e n s (m ∷ needs) h = (root-least e n s m.at (slice_get s.snapshots (m.call.0 - 1)) h, roots-least e n s needs h)
+roots-least e n s (m ∷ calls) h = (root-least e n s m.at (slice_get s.snapshots (m.call.0 - 1)) h, roots-least e n s calls h)
 
 -- ---- what is reached
 
@@ -225,8 +225,8 @@ explorations-split e leaves tasks right h =
 not-none : (n : ℕ) (s : State) (a : Step) → IsLeast n s.condition s.kept → GivesSplit n s.condition a → a ≡ Forks [] → ⊥
 not-none n s a least h is = no ((subst (GivesSplit n s.condition) is h).splits s.kept least.fits ∙ met-one n s.condition s.kept least)
   where
-    no : 0 ≡ 1 → ⊥
-    no e = absurd (omega (arith, e))
+    no : ◌≡◌ {A = ℕ} 0 1 → ⊥
+    no e = omega (arith, e)
 
 pub attempts-fork-some : AttemptsForkSome
 attempts-fork-some n c s right fit least is = not-none n s (attempt c s) least (attempts-split n c s right fit least) is
