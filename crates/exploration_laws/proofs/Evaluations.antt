@@ -6,9 +6,10 @@ use Rattle.leaves.specs.Events.{Leaf, told_of}
 use Rattle.sym_states.specs.declared.frames.Target.{Target}
 use Rattle.sym_states.specs.Attempts.{attempt}
 use Rattle.sym_states.specs.Exploring.{Setting, context_of, Reaches, forks, needs, ends, goes, all_of, Evaluates, none, stop, leaf, fork, await, crowd}
-use Rattle.sym_states.specs.States.{State, Child, Step, Goes, Forks, Needs, Ends}
+use Rattle.sym_states.specs.Merging.{merged}
+use Rattle.sym_states.specs.States.{State, Child, Step, Goes, Forks, Needs, Ends, Needed}
 use Rattle.exploration_laws.specs.Begins.{BeginsWith, condition_of, ChildrenBegin, StepBegins, LeavesBegin, ListsBegin, EvaluationsBegin}
-use Rattle.exploration_laws.specs.Has.{LeafHas, ChildrenHave, StepHas, ListsHave, EvaluationsHave}
+use Rattle.exploration_laws.specs.Has.{LeafHas, ChildrenHave, StepHas, EachChildHas, ListsHave, EvaluationsHave}
 use Rattle.exploration_laws.proofs.Givers.{begins-same, begins-through}
 use Rattle.exploration_laws.proofs.Attempts.{attempts-begin, attempts-have}
 use Rattle.exploration_laws.proofs.Merges.{merges-begin, merges-have}
@@ -81,23 +82,42 @@ have-append : (at : Option Target) (ls ms : List Leaf) → Each (λ l. LeafHas l
 have-append at [] ms h k = k
 have-append at (l ∷ ls) ms h k = (h.0, have-append at ls ms h.1 k)
 
-all-have : (at : Option Target) (lists : List (List Leaf)) → ListsHave at lists → Each (λ l. LeafHas l at) (all_of lists)
-all-have at [] h = tt
-all-have at (ls ∷ lists) h = have-append at ls (all_of lists) h.0 (all-have at lists h.1)
+-- children that all stand in this recovery, or in none
+abbrev alike : Option Target → List Child → List (Option Target)
+alike at [] = []
+alike at (c ∷ cs) = at ∷ alike at cs
 
-evaluates-have : {e : Setting} {children : List Child} {lists : List (List Leaf)} {tasks : ℕ} → Evaluates e children lists tasks → (at : Option Target) → ChildrenHave at children → ListsHave at lists
-evaluates-have none at h = tt
-evaluates-have (stop l more lists tasks g) at h = ((h.0, tt), evaluates-have g at h.1)
-evaluates-have {e = e} (leaf s l more lists tasks r g) at h = ((reaches-have e at s (Ends l) h.0 r, tt), evaluates-have g at h.1)
-evaluates-have {e = e} (fork s children below m more lists tasks r f g) at h = (all-have at below (evaluates-have f at (reaches-have e at s (Forks children) h.0 r)), evaluates-have g at h.1)
-evaluates-have {e = e} (await s t calls results k children below m more lists tasks r roots is f g) at h =
-    let there : t.target ≡ at = reaches-have e at s (Needs t calls) h.0 r in
-    let forked : ChildrenHave at children = subst (λ x. ChildrenHave x children) there (subst (StepHas t.target) is (merges-have (context_of e t) t calls results)) in
-    (all-have at below (evaluates-have f at forked), evaluates-have g at h.1)
-evaluates-have {e = e} (crowd s t calls results k l more lists tasks r roots is g) at h =
-    let there : t.target ≡ at = reaches-have e at s (Needs t calls) h.0 r in
-    let ended : LeafHas l at = subst (λ x. LeafHas l x) there (subst (StepHas t.target) is (merges-have (context_of e t) t calls results)) in
-    ((ended, tt), evaluates-have g at h.1)
+have-alike : (at : Option Target) (cs : List Child) → ChildrenHave at cs → EachChildHas (alike at cs) cs
+have-alike at [] h = tt
+have-alike at (c ∷ cs) h = (h.0, have-alike at cs h.1)
+
+all-have : (at : Option Target) (cs : List Child) (lists : List (List Leaf)) → ListsHave (alike at cs) lists → Each (λ l. LeafHas l at) (all_of lists)
+all-have at [] [] h = tt
+all-have at [] (ls ∷ lists) h = absurd h
+all-have at (c ∷ cs) [] h = absurd h
+all-have at (c ∷ cs) (ls ∷ lists) h = have-append at ls (all_of lists) h.0 (all-have at cs lists h.1)
+
+merge-has : (e : Setting) (at : Option Target) (t : State) (calls : List Needed) (results : List (List Leaf)) (a : Step) → t.target ≡ at → merged (context_of e t) t calls results ≡ a → StepHas at a
+merge-has e at t calls results a there is = subst (λ x. StepHas x a) there (subst (StepHas t.target) is (merges-have (context_of e t) t calls results))
+
+evaluates-have : {e : Setting} {children : List Child} {lists : List (List Leaf)} {tasks : ℕ} → Evaluates e children lists tasks → (ats : List (Option Target)) → EachChildHas ats children → ListsHave ats lists
+evaluates-have none [] h = tt
+evaluates-have none (at ∷ ats) h = absurd h
+evaluates-have (stop l more lists tasks g) [] h = absurd h
+evaluates-have (stop l more lists tasks g) (at ∷ ats) h = ((h.0, tt), evaluates-have g ats h.1)
+evaluates-have (leaf s l more lists tasks r g) [] h = absurd h
+evaluates-have {e = e} (leaf s l more lists tasks r g) (at ∷ ats) h = ((reaches-have e at s (Ends l) h.0 r, tt), evaluates-have g ats h.1)
+evaluates-have (fork s children below m more lists tasks r f g) [] h = absurd h
+evaluates-have {e = e} (fork s children below m more lists tasks r f g) (at ∷ ats) h =
+    (all-have at children below (evaluates-have f (alike at children) (have-alike at children (reaches-have e at s (Forks children) h.0 r))), evaluates-have g ats h.1)
+evaluates-have (await s t calls results k children below m more lists tasks r roots is f g) [] h = absurd h
+evaluates-have {e = e} (await s t calls results k children below m more lists tasks r roots is f g) (at ∷ ats) h =
+    let forked : ChildrenHave at children = merge-has e at t calls results (Forks children) (reaches-have e at s (Needs t calls) h.0 r) is in
+    (all-have at children below (evaluates-have f (alike at children) (have-alike at children forked)), evaluates-have g ats h.1)
+evaluates-have (crowd s t calls results k l more lists tasks r roots is g) [] h = absurd h
+evaluates-have {e = e} (crowd s t calls results k l more lists tasks r roots is g) (at ∷ ats) h =
+    let ended : LeafHas l at = merge-has e at t calls results (Ends l) (reaches-have e at s (Needs t calls) h.0 r) is in
+    ((ended, tt), evaluates-have g ats h.1)
 
 pub evaluations-have : EvaluationsHave
-evaluations-have e at children lists tasks h k = evaluates-have k at h
+evaluations-have e ats children lists tasks h k = evaluates-have k ats h

@@ -19,7 +19,7 @@ use Rattle.std.specs.Prelude.{slice_get}
 use Rattle.sym_states.specs.Verdicts.{Verdict, Sat, Unsat, Spent}
 use Rattle.exploration_laws.specs.Begins.{BeginsWith, condition_of, ChildrenBegin, StepBegins, RootsBegin, MergesBegin}
 use Rattle.exploration_laws.specs.Falls.{IsPlacedIn, IsPlaced, left_of, ChildIsPlaced, ChildrenHaveNoMore, MergeHasNoMore, RootsFall, MergesFall}
-use Rattle.exploration_laws.specs.Has.{LeafHas, ChildrenHave, StepHas}
+use Rattle.exploration_laws.specs.Has.{LeafHas, ChildHas, ChildrenHave, StepHas, target_if, RootsHave, MergesHave}
 use Rattle.exploration_laws.proofs.Givers.{begins-same, begins-more}
 
 -- ---- combinations
@@ -182,7 +182,7 @@ step-has first left at frame (Forks cs) h = children-have first left at frame cs
 step-has first left at frame (Needs s calls) h = absurd h
 step-has first left at frame (Ends l) h = h.1.1
 
-pub merges-have : (c : Context) (s : State) (needs : List Needed) (results : List (List Leaf)) → StepHas s.target (merged c s needs results)
+pub merges-have : MergesHave
 merges-have c s needs results = step-has s.condition s.left s.target s.frame (merged c s needs results) (merged-given c s needs results)
 
 children-fall : (first : List Tree) (left : ℕ) (at : Option Target) (frame : Frame) (cs : List Child) → IsPlacedIn at frame.place → ChildrenAreMerged first left at frame cs → ChildrenHaveNoMore left cs
@@ -215,3 +215,11 @@ root-falls e s at (Some shot) placed = (reflexive s.left, tt)
 pub roots-fall : RootsFall
 roots-fall e s [] placed = tt
 roots-fall e s (n ∷ needs) placed = (root-falls e s n.at (slice_get s.snapshots (n.call.0 - 1)) placed, roots-fall e s needs placed)
+
+root-has : (e : Setting) (s : State) (at : Location) (o : Option Snapshot) → ChildHas (target_if s at o) (recovery_if e s at o)
+root-has e s at None = refl
+root-has e s at (Some shot) = refl
+
+pub roots-have : RootsHave
+roots-have e s [] = tt
+roots-have e s (n ∷ needs) = (root-has e s n.at (slice_get s.snapshots (n.call.0 - 1)), roots-have e s needs)

@@ -1,16 +1,17 @@
 -- What leaves have: each that isn't open keeps an input; outside of recoveries none is Done, and in one none is Complete.
-use Rattle.std.specs.Prelude.{◌≡◌, ℕ, true, List, [], ◌∷◌, Option, Some, None}
+use Rattle.std.specs.Prelude.{◌≡◌, ℕ, ◌-◌, true, List, [], ◌∷◌, length, Option, Some, None, slice_get}
 use Rattle.std.specs.List.{AllByRecursion as Each}
 use Rattle.flat_ir.specs.declared.names.Location.{Location}
 use Rattle.flat_ir.specs.declared.names.Location.TheVariants as location
 use Rattle.sym_bytes.specs.Entry.{Entry}
 use Rattle.sym_bytes.specs.Value.{SymValue}
-use Rattle.log_laws.specs.Logs.{lies_in}
+use Rattle.log_laws.specs.Logs.{cut, lies_in}
 use Rattle.leaves.specs.Events.{Leaf, Complete, Fault, Skipped, Open, Done}
 use Rattle.sym_states.specs.declared.frames.Target.{Target}
 use Rattle.sym_states.specs.Attempts.{attempt}
-use Rattle.sym_states.specs.Exploring.{Setting, Evaluates}
-use Rattle.sym_states.specs.States.{State, Context, Child, Go, Stop, Step, Goes, Forks, Needs, Ends}
+use Rattle.sym_states.specs.Exploring.{Setting, roots_of, Evaluates}
+use Rattle.sym_states.specs.Merging.{merged}
+use Rattle.sym_states.specs.States.{Snapshot, State, Context, Child, Go, Stop, Step, Goes, Forks, Needs, Ends, Needed}
 
 abbrev pub IsGiven : {A : Type 0} → Option A → Type 0
 IsGiven None = ⊥
@@ -53,15 +54,42 @@ StepHas at (Forks cs) = ChildrenHave at cs
 StepHas at (Needs s calls) = s.target ≡ at
 StepHas at (Ends l) = LeafHas l at
 
--- each leaf below children that stand in this recovery, or in none
-abbrev pub ListsHave : Option Target → List (List Leaf) → Type 0
-ListsHave at lists = Each (λ ls. Each (λ l. LeafHas l at) ls) lists
+-- each child stands in the recovery beside it, or in none
+abbrev pub EachChildHas : List (Option Target) → List Child → Type 0
+EachChildHas [] [] = Unit {0}
+EachChildHas [] (c ∷ cs) = ⊥
+EachChildHas (at ∷ ats) [] = ⊥
+EachChildHas (at ∷ ats) (c ∷ cs) = ChildHas at c × EachChildHas ats cs
+
+-- so does each leaf of the list beside it
+abbrev pub ListsHave : List (Option Target) → List (List Leaf) → Type 0
+ListsHave [] [] = Unit {0}
+ListsHave [] (ls ∷ lists) = ⊥
+ListsHave (at ∷ ats) [] = ⊥
+ListsHave (at ∷ ats) (ls ∷ lists) = Each (λ l. LeafHas l at) ls × ListsHave ats lists
+
+-- a call is recovered for the location, with its log cut before it; one that has no snapshot begins no recovery
+abbrev pub target_if : State → Location → Option Snapshot → Option Target
+target_if s at None = s.target
+target_if s at (Some shot) = Some (record { call = shot.call; at = at; length = length (cut shot.call s.memory.log) })
+
+-- the recoveries of needed calls
+abbrev pub targets_of : State → List Needed → List (Option Target)
+targets_of s [] = []
+targets_of s (n ∷ needs) = target_if s n.at (slice_get s.snapshots (n.call.0 - 1)) ∷ targets_of s needs
 
 -- ---- the laws
 
 abbrev pub AttemptsHave : Type 0
 AttemptsHave = (c : Context) (s : State) → StepHas s.target (attempt c s)
 
+abbrev pub RootsHave : Type 0
+RootsHave = (e : Setting) (s : State) (calls : List Needed) → EachChildHas (targets_of s calls) (roots_of e s calls)
+
+-- whatever the leaves of the recoveries are
+abbrev pub MergesHave : Type 0
+MergesHave = (c : Context) (s : State) (calls : List Needed) (results : List (List Leaf)) → StepHas s.target (merged c s calls results)
+
 abbrev pub EvaluationsHave : Type 0
-EvaluationsHave = (e : Setting) (at : Option Target) (children : List Child) (lists : List (List Leaf)) (tasks : ℕ)
-    → ChildrenHave at children → Evaluates e children lists tasks → ListsHave at lists
+EvaluationsHave = (e : Setting) (ats : List (Option Target)) (children : List Child) (lists : List (List Leaf)) (tasks : ℕ)
+    → EachChildHas ats children → Evaluates e children lists tasks → ListsHave ats lists

@@ -2,7 +2,7 @@
 ghost use Rattle.exploration_laws.specs.Begins.{AttemptsBegin, RootsBegin, MergesBegin, EvaluationsBegin};
 ghost use Rattle.exploration_laws.specs.Cuts.{CutsStand};
 ghost use Rattle.exploration_laws.specs.Falls.{AttemptsFall, RootsFall, MergesFall};
-ghost use Rattle.exploration_laws.specs.Has.{AttemptsHave, EvaluationsHave};
+ghost use Rattle.exploration_laws.specs.Has.{AttemptsHave, RootsHave, MergesHave, EvaluationsHave};
 ghost use Rattle.exploration_laws.specs.Open.{NeedsAreOpen, NeedsRise};
 ghost use Rattle.exploration_laws.specs.Exist.{AnswersAreReached, EvaluationsExist, ExplorationsExist};
 
@@ -15,16 +15,20 @@ pub fn conditions_begin_with_the_givers()
     ensures leaves { EvaluationsBegin }
 {}
 
-/// The steps left fall at forks and at calls that are needed, and nothing that is given has more.
+/// Where a state that is in no recovery stands at a node, what it gives does so too; the steps left fall at forks and at calls that
+/// are needed, and nothing that is given has more.
 pub fn steps_left_fall()
     ensures attempts { AttemptsFall }
     ensures roots { RootsFall }
     ensures merges { MergesFall }
 {}
 
-/// Each leaf that isn't open keeps an input; outside of recoveries none is of a recovery, and in one none ends the program.
+/// Each leaf that isn't open keeps an input; outside of recoveries none is of a recovery, and in one none ends the program. An
+/// attempt and a merge stay in the recovery or outside, and a root stands in its own.
 pub fn leaves_have_inputs()
     ensures attempts { AttemptsHave }
+    ensures roots { RootsHave }
+    ensures merges { MergesHave }
     ensures leaves { EvaluationsHave }
 {}
 

@@ -1,4 +1,4 @@
-//! What holds of every exploration.
+//! Every exploration splits the inputs.
 ghost use Rattle.split_laws.specs.Splits.{AttemptsSplit, RootsKeepLeast, MergesSplit, EvaluationsSplit, ExplorationsSplit, AttemptsForkSome, MergesForkSome, ListsHaveSome};
 
 /// What an attempt gives, and what a merge makes of whatever lists of leaves split the inputs of a suspended state, splits the
