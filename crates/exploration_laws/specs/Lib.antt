@@ -1,0 +1,6 @@
+pub mod Begins
+pub mod Falls
+pub mod Has
+pub mod Exist
+pub mod Cuts
+pub mod Open

@@ -1,0 +1,52 @@
+//! What holds of every exploration.
+ghost use Rattle.exploration_laws.specs.Begins.{AttemptsBegin, RootsBegin, MergesBegin, EvaluationsBegin};
+ghost use Rattle.exploration_laws.specs.Cuts.{CutsStand};
+ghost use Rattle.exploration_laws.specs.Falls.{AttemptsFall, RootsFall, MergesFall};
+ghost use Rattle.exploration_laws.specs.Has.{AttemptsHave, RootsHave, MergesHave, EvaluationsHave};
+ghost use Rattle.exploration_laws.specs.Open.{NeedsAreOpen, NeedsRise};
+ghost use Rattle.exploration_laws.specs.Exist.{AnswersAreReached, EvaluationsExist, ExplorationsExist};
+
+/// The condition of what an attempt, a root or a merge gives begins with the conjuncts of the state that gave it, and so does that
+/// of each leaf below a state.
+pub fn conditions_begin_with_the_givers()
+    ensures attempts { AttemptsBegin }
+    ensures roots { RootsBegin }
+    ensures merges { MergesBegin }
+    ensures leaves { EvaluationsBegin }
+{}
+
+/// Where a state that is in no recovery stands at a node, what it gives does so too; the steps left fall at forks and at calls that
+/// are needed, and nothing that is given has more.
+pub fn steps_left_fall()
+    ensures attempts { AttemptsFall }
+    ensures roots { RootsFall }
+    ensures merges { MergesFall }
+{}
+
+/// Each leaf that isn't open keeps an input; outside of recoveries none is of a recovery, and in one none ends the program. An
+/// attempt and a merge stay in the recovery or outside, and a root stands in its own.
+pub fn leaves_have_inputs()
+    ensures attempts { AttemptsHave }
+    ensures roots { RootsHave }
+    ensures merges { MergesHave }
+    ensures leaves { EvaluationsHave }
+{}
+
+/// Each state reaches an answer, and each exploration has its leaves.
+pub fn explorations_exist()
+    ensures answers { AnswersAreReached }
+    ensures evaluations { EvaluationsExist }
+    ensures leaves { ExplorationsExist }
+{}
+
+/// A log cut before a call's mark stands for the history before what the call changed, its marks as they were.
+pub fn cut_logs_stand_for_the_history_before()
+    ensures { CutsStand }
+{}
+
+/// Each call that is needed for what is wanted of a log has a mark there that may have changed it, and no fill for it; where the
+/// marks are numbered in their order, the calls rise, so none is needed twice.
+pub fn needed_calls_are_open()
+    ensures marks { NeedsAreOpen }
+    ensures rise { NeedsRise }
+{}
