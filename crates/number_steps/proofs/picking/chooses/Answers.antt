@@ -1,10 +1,7 @@
-use Rattle.std.proofs.Common.{length, refl}
+use Rattle.std.proofs.Common.{length}
 use Rattle.state_sides.specs.Views.{state_seen}
 use Rattle.number_steps.proofs.Fitted.{number-term}
 use Rattle.number_steps.proofs.picking.chooses.Goals as goal
-
-pub same-x : goal.same-x
-same-x g c = refl
 
 pub selects-requires-clause-budget : goal.selects-requires-clause-budget
 selects-requires-clause-budget g c κs within = c.requires.budget

@@ -6,6 +6,3 @@ same-size g c = refl
 
 pub alloc-requires : goal.alloc-requires
 alloc-requires g c = c.requires
-
-pub same-pointer : goal.same-pointer
-same-pointer g c = refl

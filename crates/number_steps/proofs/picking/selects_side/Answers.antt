@@ -1,4 +1,4 @@
-use Rattle.std.proofs.Common.{length, refl}
+use Rattle.std.proofs.Common.{length}
 use Rattle.number_steps.proofs.Fitted.{truth-truth}
 use Rattle.number_steps.proofs.picking.selects_side.Goals as goal
 
@@ -10,9 +10,3 @@ test-requires-clause-fits g c κs within = c.requires.fits.fits
 
 pub test-requires-clause-truth : goal.test-requires-clause-truth
 test-requires-clause-truth g c κs within = truth-truth (length c.args.state.kept) c.args.condition.now c.in_ok-truth.truth c.in_ok-truth.ensures.value c.requires.condition
-
-pub same-a : goal.same-a
-same-a g c = refl
-
-pub same-b : goal.same-b
-same-b g c = refl

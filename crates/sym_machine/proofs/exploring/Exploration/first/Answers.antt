@@ -9,12 +9,3 @@ same-result-2 g c = refl
 
 pub same-result-3 : goal.same-result-3
 same-result-3 g c = refl
-
-pub same-result-4 : goal.same-result-4
-same-result-4 g c = refl
-
-pub same-result-5 : goal.same-result-5
-same-result-5 g c = refl
-
-pub same-result-6 : goal.same-result-6
-same-result-6 g c = refl
