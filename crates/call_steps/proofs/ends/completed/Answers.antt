@@ -3,9 +3,6 @@ use Rattle.state_sides.specs.Views.{state_seen}
 use Rattle.call_steps.proofs.Ending.{complete-fits}
 use Rattle.call_steps.proofs.ends.completed.Goals as goal
 
-pub same-told : goal.same-told
-same-told g c = refl
-
 pub same-status : goal.same-status
 same-status g c = refl
 
