@@ -3,7 +3,7 @@ use concrete_machine::{Outcome, RunEnd, run};
 use std::alloc::{AllocError, Global};
 use std::test::Fail;
 
-/// What came of the run of a text's program, if the text is accepted: of a copy, which goes on alone.
+/// What came of the run of a text's program, if the text is accepted. A copy of it is made and let go before.
 pub(crate) fn ended(
     alloc: Global,
     text: &str,
@@ -18,8 +18,8 @@ pub(crate) fn ended(
         return Ok(None);
     };
     let copy = program.copy()?;
-    drop(program);
-    Ok(Some(run(alloc, &copy, input, steps)?))
+    drop(copy);
+    Ok(Some(run(alloc, &program, input, steps)?))
 }
 
 // Whether a run ended so.
