@@ -17,7 +17,8 @@ use Rattle.log_laws.specs.Standing.{Gave, StandsFor}
 use Rattle.leaves.specs.Claims.{event_under, verdict_of}
 use Rattle.leaves.specs.Events.{Leaf, told_of}
 use Rattle.sym_states.specs.declared.frames.Place.TheVariants.{At}
-use Rattle.sym_states.specs.States.{Frame, Snapshot, State, Child, Go, Stop, Step, Goes, Forks, Needs, Ends}
+use Rattle.skip_records.specs.Snapshots.{Snapshot}
+use Rattle.sym_states.specs.States.{Frame, State, Child, Go, Stop, Step, Goes, Forks, Needs, Ends}
 
 -- a register that is set has its value under the input; of one that isn't set nothing is said
 abbrev pub RegAgrees : List ℕ → Results → Option SymValue → ConcreteValue → Type 0

@@ -14,10 +14,11 @@ use flat_ir::{FuncId, Location, Operand, RegId, RegType};
 use node_values::value_in;
 use places::Home;
 use plain_list::Sequence;
+use skip_records::Snapshot;
 use state_sides::{Machine, State, Step, result_of};
 use std::alloc::{AllocError, Global};
 use sym_bytes::{CallId, SymValue};
-use sym_states::{Frame, Snapshot, Target};
+use sym_states::{Frame, Target};
 use terms::Terms;
 use write_log::{Index, SymMemory};
 

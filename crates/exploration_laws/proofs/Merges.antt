@@ -14,7 +14,8 @@ use Rattle.sym_states.specs.declared.frames.Target.{Target}
 use Rattle.sym_states.specs.Exploring.{Setting, recovery_if}
 use Rattle.sym_states.specs.Merging.{Partial, add_all, by_verdict, still_meets, joined_with, combined, combined_all, folded, first_partial, Where, fault_of, cause_of, first_some, steps_of, filled_by, filled_all, state_of, child_by_cause, child_by_fault, child_of, children_of, merged}
 use Rattle.sym_states.specs.Sides.{share_of}
-use Rattle.sym_states.specs.States.{Frame, Snapshot, State, Context, Child, Go, Stop, Step, Goes, Forks, Needs, Ends, Needed, told_with, opens}
+use Rattle.skip_records.specs.Snapshots.{Snapshot}
+use Rattle.sym_states.specs.States.{Frame, State, Context, Child, Go, Stop, Step, Goes, Forks, Needs, Ends, Needed, told_with, opens}
 use Rattle.std.specs.Prelude.{slice_get}
 use Rattle.sym_states.specs.Verdicts.{Verdict, Sat, Unsat, Spent}
 use Rattle.exploration_laws.specs.Begins.{BeginsWith, condition_of, ChildrenBegin, StepBegins, RootsBegin, MergesBegin}

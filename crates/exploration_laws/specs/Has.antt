@@ -11,7 +11,8 @@ use Rattle.sym_states.specs.declared.frames.Target.{Target}
 use Rattle.sym_states.specs.Attempts.{attempt}
 use Rattle.sym_states.specs.Exploring.{Setting, roots_of, Evaluates}
 use Rattle.sym_states.specs.Merging.{merged}
-use Rattle.sym_states.specs.States.{Snapshot, State, Context, Child, Go, Stop, Step, Goes, Forks, Needs, Ends, Needed}
+use Rattle.skip_records.specs.Snapshots.{Snapshot}
+use Rattle.sym_states.specs.States.{State, Context, Child, Go, Stop, Step, Goes, Forks, Needs, Ends, Needed}
 
 abbrev pub IsGiven : {A : Type 0} → Option A → Type 0
 IsGiven None = ⊥

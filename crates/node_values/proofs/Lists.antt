@@ -1,7 +1,7 @@
 -- Results of calls, the newest last.
 use Rattle.std.proofs.Common.{◌≡◌, List, [], ◌∷◌, ◌++◌, refl, ap}
 use Rattle.sym_bytes.specs.Value.{SymValue}
-use Rattle.sym_states.specs.States.{Snapshot}
+use Rattle.skip_records.specs.Snapshots.{Snapshot}
 use Rattle.sym_states.specs.Terms.{with_result, resolved}
 
 -- the newest result is put first

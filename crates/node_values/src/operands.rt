@@ -6,9 +6,9 @@ use crate::numbers::{null, pointer_to, wide};
 use flat_ir::{ObjectName, Operand};
 use places::Home;
 use plain_list::Sequence;
+use skip_records::Snapshot;
 use std::alloc::{AllocError, Global};
 use sym_bytes::{Base, CallId, Pointer, SymValue, ValueKind, put_call};
-use sym_states::Snapshot;
 use terms::{Term, Terms, constant};
 
 /// What the call returned, where that is recovered, in place of its pending result.

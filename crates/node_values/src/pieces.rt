@@ -13,9 +13,9 @@ use bitnum::Num;
 use flat_ir::RegType;
 use places::Home;
 use plain_list::Sequence;
+use skip_records::Snapshot;
 use std::alloc::AllocError;
 use sym_bytes::{ByteKind, Joined, SymByte, SymValue, ValueKind, cut_value, join_bytes};
-use sym_states::Snapshot;
 use terms::{Terms, byte, constant};
 
 /// How many bytes a value of a type takes in memory.

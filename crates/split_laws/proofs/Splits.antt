@@ -14,7 +14,8 @@ use Rattle.leaves.specs.Events.{Leaf, told_of}
 use Rattle.sym_states.specs.Attempts.{attempt}
 use Rattle.sym_states.specs.Exploring.{Setting, zeros, context_of, recovery_if, roots_of, Reaches, forks, needs, ends, goes, all_of, Evaluates, none, stop, leaf, fork, await, crowd}
 use Rattle.sym_states.specs.Merging.{merged}
-use Rattle.sym_states.specs.States.{Snapshot, State, Child, Go, Stop, Step, Goes, Forks, Needs, Ends, node_of}
+use Rattle.skip_records.specs.Snapshots.{Snapshot}
+use Rattle.sym_states.specs.States.{State, Child, Go, Stop, Step, Goes, Forks, Needs, Ends, node_of}
 use Rattle.state_laws.specs.Kept.{StateFitsAt, ChildrenFit, StepFits}
 use Rattle.state_laws.proofs.Attempted.{attempt-fits}
 use Rattle.state_laws.proofs.Explored.{reaches-fits, evaluates-fits}

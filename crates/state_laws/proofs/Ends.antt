@@ -30,7 +30,8 @@ use Rattle.sym_states.specs.declared.frames.Target.{Target}
 use Rattle.sym_states.specs.Attempts.{divides_by, divides_signed, divides, gives_term, picks, selects, mallocs, enters, result_type, next_call, snapshot_of, mods_of, skips, is_skipped, calls, took, frees_of_node, frees_at, frees_from, ended, completed, completes, if_result, recovers, resumed, ends_first, leaves_to, ends_frame, is_main_end, returns, exits, knows, firm, must}
 use Rattle.sym_states.specs.Fitting.{ValuesFit, FramesFit, SnapshotFits, SnapshotsFit, LogFits}
 use Rattle.sym_states.specs.Sides.{Tested, Good, Bad, Answered, test}
-use Rattle.sym_states.specs.States.{Frame, Snapshot, State, Context, here, in_frame, shown, code_of, name_below, counted, moved, entered, then_step}
+use Rattle.skip_records.specs.Snapshots.{Snapshot}
+use Rattle.sym_states.specs.States.{Frame, State, Context, here, in_frame, shown, code_of, name_below, counted, moved, entered, then_step}
 use Rattle.sym_states.specs.Terms.{value_in, term_in, chosen, truth_of, is_nonzero, has_quotient}
 use Rattle.state_laws.specs.Kept.{CallFits, IsShortIf, IsFitting, IsShortTypeIf, AreShort, FramesAreShort, IsShortSnapshot, AreShortSnapshots, OperandsFit, StateFitsAt, ValueFitsAt, StepFits, FlowFits, TestedFits}
 use Rattle.state_laws.proofs.Terms.{is_nonzero-fits, has_quotient-fits, chosen-fits, truth_of-fits}

@@ -18,7 +18,8 @@ use Rattle.sym_bytes.specs.Cutting.{byte_of, cut_value}
 use Rattle.sym_bytes.specs.Joining.{ints_of, offsets_of, mixed_or, pending_call, calls_in, join_pending, join_integer, join_null, null_if_zero, join_offsets, join_pointer, join_bytes}
 use Rattle.sym_bytes.specs.Pointers.{Pointer}
 use Rattle.sym_bytes.specs.Value.{SymValue, Int, Ptr, Pending}
-use Rattle.sym_states.specs.States.{Snapshot, State}
+use Rattle.skip_records.specs.Snapshots.{Snapshot}
+use Rattle.sym_states.specs.States.{State}
 use Rattle.sym_states.specs.Terms.{bytes_of_value, is_of_bytes, with_result, resolved, byte_resolved, set_or_null, raw_in, value_in, put_pending, pending_in, stored_bytes, joined_as}
 use Rattle.state_laws.specs.Skipless.{IsFirm, IsFirmIf, RegsAreFirm, IsFirmByte, AreFirmBytes, HasNoCalls}
 

@@ -20,7 +20,8 @@ use Rattle.leaves.specs.Fitting.{AreTermsOf, ValueFitsIf, EntriesFit, ToldFitsIn
 use Rattle.sym_states.specs.Fitting.{SnapshotFits, SnapshotsFit, FillsFit, LogFits}
 use Rattle.sym_states.specs.Merging.{Partial, add_all, by_verdict, still_meets, joined_with, combined, combined_all, folded, first_partial, Where, fault_of, cause_of, first_some, steps_of, has_recovered, filled_by, filled_all, state_of, child_by_cause, child_by_fault, child_of, children_of, merged}
 use Rattle.sym_states.specs.Sides.{share_of}
-use Rattle.sym_states.specs.States.{Snapshot, State, Context, Stop, Forks, Needed, told_with, opens}
+use Rattle.skip_records.specs.Snapshots.{Snapshot}
+use Rattle.sym_states.specs.States.{State, Context, Stop, Forks, Needed, told_with, opens}
 use Rattle.sym_states.specs.Verdicts.{Verdict, Sat, Unsat, Spent}
 use Rattle.state_laws.specs.Kept.{IsFitting, IsShortIf, IsShortSnapshot, AreShortSnapshots, StateFitsAt, LeafFitsAt, ChildFits, ChildrenFit, StepFits}
 use Rattle.state_laws.specs.Explored.{LeavesFitAt}

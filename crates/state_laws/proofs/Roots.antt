@@ -7,7 +7,8 @@ use Rattle.sym_bytes.specs.Building.{same_call}
 use Rattle.log_laws.specs.Logs.{Log, Did, Marked, cut}
 use Rattle.sym_states.specs.Exploring.{Setting, zeros, first_state, context_of, before_call, recovery_of, recovery_if, root_of, roots_of}
 use Rattle.sym_states.specs.Fitting.{SnapshotFits, SnapshotsFit, LogFits}
-use Rattle.sym_states.specs.States.{Snapshot, State, Needed}
+use Rattle.skip_records.specs.Snapshots.{Snapshot}
+use Rattle.sym_states.specs.States.{State, Needed}
 use Rattle.state_laws.specs.Explored.{IsFittingSetting}
 use Rattle.state_laws.specs.Kept.{IsFitting, IsShortSnapshot, AreShortSnapshots, StateFitsAt, ChildFits, ChildrenFit}
 use Rattle.state_laws.proofs.States.{parts_of, whole_of, entered-fits}

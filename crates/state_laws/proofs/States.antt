@@ -26,7 +26,8 @@ use Rattle.leaves.specs.Events.{Event, Recovered, Leaf, told_of}
 use Rattle.leaves.specs.Events as leaf
 use Rattle.leaves.specs.Fitting.{IsTerm, IsTermOf, AreTermsOf, ValueFitsIf, EntryFits, EventFits, EventsFit, ResultsFit, ToldFitsIn}
 use Rattle.sym_states.specs.Fitting.{ValuesFit, RegsFit, FramesFit, SnapshotsFit, LogFits, GlobalsFit, StateFits}
-use Rattle.sym_states.specs.States.{Frame, Snapshot, State, Context, Step, Flow, On, Over, results_of, told_with, told, opens, in_frame, appended, shown, counted, set, set_if, moved, entered, gives, goes_on, then_flow, then_step, unless_needed}
+use Rattle.skip_records.specs.Snapshots.{Snapshot}
+use Rattle.sym_states.specs.States.{Frame, State, Context, Step, Flow, On, Over, results_of, told_with, told, opens, in_frame, appended, shown, counted, set, set_if, moved, entered, gives, goes_on, then_flow, then_step, unless_needed}
 use Rattle.sym_states.specs.Terms.{value_in, raw_in, number_in, address_in, moved_by, moved_by_all, set_all}
 use Rattle.sym_states.proofs.Fitted.{regs-set, appended-fits, shown-fits}
 use Rattle.sym_states.proofs.Widths.{behind-fits}

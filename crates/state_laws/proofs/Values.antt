@@ -32,7 +32,7 @@ use Rattle.sym_bytes.specs.Pointers.{Pointer}
 use Rattle.sym_bytes.specs.Value.{SymValue, Int, Ptr, Pending}
 use Rattle.leaves.specs.Fitting.{IsTerm, IsTermOf, AreTermsOf, ValueFits, ValueFitsIf, ByteFits, BytesFit}
 use Rattle.sym_states.specs.Fitting.{RegsFit, SnapshotFits, SnapshotsFit}
-use Rattle.sym_states.specs.States.{Snapshot}
+use Rattle.skip_records.specs.Snapshots.{Snapshot}
 use Rattle.sym_states.specs.Terms.{bytes_of_value, is_of_bytes, part_of, instead, with_result, resolved, byte_resolved, set_or_null, raw_in, term_in, pointer_in, compared_values, status_of, stored_bytes, joined_as}
 use Rattle.sym_states.proofs.Widths as widths
 use Rattle.sym_states.proofs.Widths.{equal-fits, byte-fits, wide-fits, behind-fits}

@@ -26,7 +26,8 @@ use Rattle.sym_states.specs.Attempts.{Reached, ReadBytes, Valued, result_type, a
 use Rattle.sym_states.specs.Fitting.{StateFits}
 use Rattle.sym_states.specs.Sides.{Offspring, Lives, Spends, Offer, Alone, Several, Tested, Good, Bad, Answered}
 use Rattle.sym_states.specs.States as states
-use Rattle.sym_states.specs.States.{Frame, Snapshot, State, Context, Child, Step, Flow}
+use Rattle.skip_records.specs.Snapshots.{Snapshot}
+use Rattle.sym_states.specs.States.{Frame, State, Context, Child, Step, Flow}
 use Rattle.sym_states.specs.Verdicts.{Sat}
 
 -- ---- what is taken of a program: its numbers fit their widths, and its values have at most 8 bytes

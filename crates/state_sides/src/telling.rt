@@ -9,8 +9,8 @@ use crate::states::{State, Step};
 use leaves::{Cause, Leaf, LeafKind, Recovered, Told};
 use places::Home;
 use plain_list::Sequence;
+use skip_records::Snapshot;
 use std::alloc::{AllocError, Global};
-use sym_states::Snapshot;
 use term_store::Conditions;
 use write_log::Index;
 

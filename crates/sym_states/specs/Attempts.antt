@@ -50,7 +50,8 @@ use Rattle.sym_states.specs.declared.frames.Place.{Place}
 use Rattle.sym_states.specs.declared.frames.Place.TheVariants.{At, End, Never}
 use Rattle.sym_states.specs.declared.frames.Target.{Target}
 use Rattle.sym_states.specs.Sides.{Tested, Good, Bad, Answered, test, choose_way}
-use Rattle.sym_states.specs.States.{Frame, Snapshot, State, Context, Step, Goes, Ends, Flow, On, Over, then_flow, then_step, told, opens, in_frame, appended, shown, here, code_of, made_now, name_below, counted, set_if, moved, entered, gives, goes_on, unless_needed}
+use Rattle.skip_records.specs.Snapshots.{Snapshot}
+use Rattle.sym_states.specs.States.{Frame, State, Context, Step, Goes, Ends, Flow, On, Over, then_flow, then_step, told, opens, in_frame, appended, shown, here, code_of, made_now, name_below, counted, set_if, moved, entered, gives, goes_on, unless_needed}
 use Rattle.sym_states.specs.Terms.{byte_resolved, value_in, number_in, address_in, pending_in, term_in, calculated, compared_values, cast_to, chosen, low_byte, status_of, truth_of, size_in, moved_by_all, input_at, is_nonzero, has_quotient, is_small, is_within, is_start, branch_sides, switch_sides, bytes_of_value, stored_bytes, joined_as, set_all}
 
 -- ---- what is needed first

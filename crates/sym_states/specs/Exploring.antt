@@ -13,7 +13,8 @@ use Rattle.write_log.specs.Memory.{with_log}
 use Rattle.leaves.specs.Events.{Leaf}
 use Rattle.sym_states.specs.Attempts.{attempt}
 use Rattle.sym_states.specs.Merging.{merged}
-use Rattle.sym_states.specs.States.{Frame, Snapshot, State, Context, Child, Go, Stop, Step, Goes, Forks, Needs, Ends, Needed, entered}
+use Rattle.skip_records.specs.Snapshots.{Snapshot}
+use Rattle.sym_states.specs.States.{Frame, State, Context, Child, Go, Stop, Step, Goes, Forks, Needs, Ends, Needed, entered}
 
 -- one exploration: the program, what is skipped, what calls may change, the slice of each function for each location, how many
 -- bytes the input has, the limits, and the verdict on a condition over inputs of so many bytes

@@ -9,7 +9,8 @@ use Rattle.sym_bytes.specs.Answers.{Living, Alive, Dead, Read, Byte, Undecided}
 use Rattle.sym_bytes.specs.Value.{SymValue}
 use Rattle.log_laws.specs.Logs.{Fill, Item, Did, Marked, Log}
 use Rattle.leaves.specs.Fitting.{IsTermOf, AreTermsOf, ValueFits, ValueFitsIf, ByteFits, EntryFits, EntriesFit, EventsFit}
-use Rattle.sym_states.specs.States.{Frame, Snapshot, State}
+use Rattle.skip_records.specs.Snapshots.{Snapshot}
+use Rattle.sym_states.specs.States.{Frame, State}
 
 abbrev pub ValuesFit : ℕ → List SymValue → Type 0
 ValuesFit n [] = Unit {0}

@@ -19,7 +19,8 @@ use Rattle.leaves.specs.declared.options.Cause.TheVariants as cause
 use Rattle.leaves.specs.Events.{Leaf, told_of}
 use Rattle.leaves.specs.Events as leaf
 use Rattle.sym_states.specs.Sides.{share_of}
-use Rattle.sym_states.specs.States.{Snapshot, State, Context, Child, Go, Stop, Step, Forks, Needed, told_with, opens}
+use Rattle.skip_records.specs.Snapshots.{Snapshot}
+use Rattle.sym_states.specs.States.{State, Context, Child, Go, Stop, Step, Forks, Needed, told_with, opens}
 
 -- a combination so far: its condition, its input unless a verdict was spent, and the leaves that it used, in order
 pub record Partial : Type 0 where

@@ -24,6 +24,7 @@ use Rattle.sym_bytes.specs.Entry.{Entry}
 use Rattle.sym_bytes.specs.Value.{SymValue}
 use Rattle.log_laws.specs.Logs.{Did}
 use Rattle.write_log.specs.Memory.{Memory, with_item}
+use Rattle.skip_records.specs.Snapshots.{Snapshot}
 use Rattle.leaves.specs.declared.options.Cause.{Cause}
 use Rattle.leaves.specs.Events as leaf
 use Rattle.leaves.specs.Events.{Event, Recovered, Told, Leaf}
@@ -39,15 +40,6 @@ pub record Frame : Type 0 where
   pub regs : List (Option SymValue)
   pub name : List CallStep
   pub counts : List ℕ
-
--- a skipped call: its function, its arguments, the name of the frame that it would have made, and what of it is recovered
-pub record Snapshot : Type 0 where
-  pub call : CallId
-  pub func : FuncId
-  pub args : List SymValue
-  pub frame : List CallStep
-  pub result : Option SymValue
-  pub recovered : List Location
 
 -- The newest frame, and those that called it, the newest first; memory; the skipped calls, the oldest first; the condition, and
 -- the least input that meets it; the branches and loads, the oldest first; the steps left, and the leaves that the state may

@@ -31,7 +31,8 @@ use Rattle.sym_bytes.specs.Cutting.{byte_of, cut_value}
 use Rattle.sym_bytes.specs.Joining.{put_call, join_bytes}
 use Rattle.sym_bytes.specs.Pointers.{Pointer}
 use Rattle.sym_bytes.specs.Value.{SymValue, Int, Ptr, Pending}
-use Rattle.sym_states.specs.States.{Frame, Snapshot, State, set}
+use Rattle.skip_records.specs.Snapshots.{Snapshot}
+use Rattle.sym_states.specs.States.{Frame, State, set}
 
 -- ---- values and their bytes
 

@@ -1,10 +1,11 @@
-//! Frames, and skipped calls.
+//! Frames.
 ghost use Rattle.std.specs.Prelude.{◌≡◌, Some, slice_get, slice_set, unwrap_or, IfOk, OnOk};
 ghost use Rattle.sym_states.specs.States as spec;
 
 use flat_ir::{CallStep, FrameName, FuncId, Location, NodeId, ObjectName, RegId};
 use places::Home;
 use plain_list::Sequence;
+use skip_records::copied;
 use std::alloc::{AllocError, Global};
 use std::marker::Model;
 use sym_bytes::{CallId, SymValue};
@@ -71,15 +72,6 @@ impl<H: Home> Model for Frame<H> {
     ghost coded = { Prim.hlevel (codes, coded_tree) };
 
     ghost view = { λ f. record { func = f.func; place = f.place; regs = f.regs; name = f.name; counts = f.counts } };
-}
-
-fn copied<H: Home>(value: &Option<SymValue<H>>) -> Result<Option<SymValue<H>>, AllocError>
-    ensures { IfOk result (λ v. v ≡ value.now) }
-{
-    match value {
-        Some(v) => Ok(Some(v.copy()?)),
-        None => Ok(None),
-    }
 }
 
 fn copied_regs<H: Home>(
@@ -235,74 +227,5 @@ impl<H: Home> Frame<H> {
         ensures { self.new ≡ record self.old { place = place } }
     {
         self.place = place;
-    }
-}
-
-/// A skipped call: its function, its arguments, the name of the frame that it would have made, its result where that is
-/// recovered, and the locations of which its changes are recovered.
-#[derive(Drop)]
-pub struct Snapshot<H: Home> {
-    pub call: CallId,
-    pub func: FuncId,
-    pub args: Sequence<SymValue<H>>,
-    pub frame: FrameName,
-    pub result: Option<SymValue<H>>,
-    pub recovered: Sequence<Location>,
-}
-
-impl<H: Home> Model for Snapshot<H> {
-    ghost use Rattle.sym_states.specs.States.{Snapshot};
-
-    ghost Value = { Snapshot };
-
-    ghost use Rattle.std.specs.Coded.{codes};
-    ghost use Rattle.terms.specs.Codes.{coded_tree};
-
-    ghost coded = { Prim.hlevel (codes, coded_tree) };
-
-    ghost view = { λ s. record { call = s.call; func = s.func; args = s.args; frame = s.frame; result = s.result; recovered = s.recovered } };
-}
-
-/// Equal values, which share their parts.
-pub fn copy_values<H: Home>(
-    alloc: Global,
-    values: &[SymValue<H>],
-) -> Result<Sequence<SymValue<H>>, AllocError>
-    ensures { IfOk result (λ list. list ≡ values.now) }
-{
-    let mut list = Sequence::new(alloc);
-    for value in values {
-        list.push(value.copy()?)?;
-    }
-    Ok(list)
-}
-
-impl<H: Home> Snapshot<H> {
-    /// The call.
-    pub fn call(&self) -> CallId
-        ensures { result ≡ self.now.call }
-    {
-        self.call
-    }
-
-    /// What the call returned, if that is recovered.
-    pub fn result(&self) -> &Option<SymValue<H>>
-        ensures { result.now ≡ self.now.result }
-    {
-        &self.result
-    }
-
-    /// An equal one.
-    pub fn copy(&self, alloc: Global) -> Result<Snapshot<H>, AllocError>
-        ensures { IfOk result (λ s. s ≡ self.now) }
-    {
-        Ok(Snapshot {
-            call: self.call,
-            func: self.func,
-            args: copy_values(alloc, self.args.as_slice())?,
-            frame: self.frame.copy()?,
-            result: copied(&self.result)?,
-            recovered: self.recovered.copy(alloc)?,
-        })
     }
 }

@@ -7,5 +7,5 @@ mod frames;
 mod laws;
 
 pub use callers::Callers;
-pub use frames::{Frame, Place, Snapshot, Target, copy_values};
+pub use frames::{Frame, Place, Target};
 pub use laws::{attempts_reach_one_answer, computed_leaves_are_explored, tests_split_inputs};

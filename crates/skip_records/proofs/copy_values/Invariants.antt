@@ -1,5 +1,5 @@
 use Rattle.std.proofs.Common.{◌≡◌, take}
-use Rattle.sym_states.proofs.frames.copy_values.Given as goal
+use Rattle.skip_records.proofs.copy_values.Given as goal
 
 abbrev pub invariant-loop-value : goal.invariant-loop-value
 invariant-loop-value g l = l.list ≡ take l.value-index l.values
