@@ -11,7 +11,7 @@ use node_values::status_of;
 use places::Home;
 use state_sides::{Flow, State, Step, told};
 use std::alloc::AllocError;
-use step_tests::{fails, knows};
+use step_parts::{fails, knows};
 use sym_bytes::{SymValue, Wanted};
 use sym_states::Target;
 use terms::Terms;

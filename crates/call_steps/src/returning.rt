@@ -19,7 +19,7 @@ use places::Home;
 use state_sides::{Flow, Machine, State, Step, node_in};
 use std::alloc::{AllocError, Global};
 use std::mem;
-use step_tests::firm;
+use step_parts::firm;
 use sym_bytes::SymValue;
 use sym_states::{Callers, Frame};
 use terms::Terms;

@@ -16,7 +16,7 @@ use node_values::is_within;
 use places::Home;
 use state_sides::{Flow, Machine, State};
 use std::alloc::AllocError;
-use step_tests::{fails, knows, must};
+use step_parts::{fails, knows, must};
 use sym_bytes::{Base, LifeOf, Pointer, Wanted};
 use terms::Term;
 use write_log::{Index, SymMemory};

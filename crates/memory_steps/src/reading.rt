@@ -17,7 +17,7 @@ use places::Home;
 use plain_list::Sequence;
 use state_sides::{Flow, Machine, State, Step, Tested, opens};
 use std::alloc::AllocError;
-use step_tests::knows;
+use step_parts::knows;
 use sym_bytes::{ReadByte, SymByte, Wanted};
 use terms::Term;
 use write_log::{Index, SymMemory};

@@ -14,11 +14,11 @@ use crate::reading::{ReadBytes, reads};
 use decider::Decide;
 use flat_ir::Operand;
 use node_values::{bytes_of_value, stored_bytes};
-use number_steps::address;
 use places::Home;
 use plain_list::Sequence;
 use state_sides::{Flow, Machine, State, Step};
 use std::alloc::AllocError;
+use step_parts::address;
 use sym_bytes::{Entry, Pointer, SymByte, SymValue};
 use write_log::SymMemory;
 
@@ -110,7 +110,7 @@ pub fn stores_at<H: Home, K: SymMemory, D: Decide>(
     requires pointer { OperandFits pointer.now }
     ensures { IfOk result (λ step. step_seen step ≡ attempts.stores_at (context_of machine.now.scope) value.now pointer.now (state_seen state)) }
 {
-    let stored = number_steps::value(machine.terms, &state, value)?;
+    let stored = step_parts::value(machine.terms, &state, value)?;
     let there = address(machine.terms, &state, pointer)?;
     stores(machine, &stored, &there, state)
 }

@@ -7,7 +7,6 @@ ghost use Rattle.state_laws.specs.Kept.{IsFitting, StateFitsAt, FlowFits, Operan
 ghost use Rattle.state_sides.specs.Views.{context_of, state_seen, step_seen, flow_seen};
 
 use crate::making::gives_term;
-use crate::operands::number;
 use bitnum::BinOp;
 use decider::Decide;
 use flat_ir::{FaultKind, Operand, RegId};
@@ -15,7 +14,7 @@ use node_values::{calculated, has_quotient, is_nonzero};
 use places::Home;
 use state_sides::{Flow, Machine, State, Step};
 use std::alloc::AllocError;
-use step_tests::must;
+use step_parts::{must, number};
 use terms::Term;
 use write_log::SymMemory;
 

@@ -7,13 +7,13 @@ ghost use Rattle.state_laws.specs.Kept.{StateFitsAt, OperandFits, CasesFit};
 ghost use Rattle.state_sides.specs.Views.{context_of, state_seen, step_seen};
 
 use crate::making::gives_term;
-use crate::operands::number;
 use decider::Decide;
 use flat_ir::{Operand, RegId, SwitchCase};
 use node_values::{branch_sides, input_at, low_byte, switch_sides};
 use places::Home;
 use state_sides::{Machine, State, Step};
 use std::alloc::AllocError;
+use step_parts::number;
 use sym_bytes::Entry;
 use terms::{Term, Terms};
 use write_log::SymMemory;

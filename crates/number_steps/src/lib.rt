@@ -4,11 +4,9 @@
 mod dividing;
 mod going;
 mod making;
-mod operands;
 mod picking;
 
 pub use dividing::{computes, divides};
 pub use going::{branches, puts, switches, takes_input};
 pub use making::{casts, compares, gives_term, places};
-pub use operands::{address, number, value};
 pub use picking::{asks_memory, chooses, makes, mallocs, picks, selects};

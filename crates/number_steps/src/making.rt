@@ -7,7 +7,6 @@ ghost use Rattle.sym_states.specs.States.{gives};
 ghost use Rattle.sym_states.specs.Terms as spec;
 ghost use Rattle.state_sides.specs.Views.{context_of, state_seen, step_seen};
 
-use crate::operands::{address, number, value};
 use bitnum::Pred;
 use decider::Decide;
 use flat_ir::{CastOp, GepPart, Operand, RegId, RegType};
@@ -15,6 +14,7 @@ use node_values::{behind, cast_to, compared_values, moved_by_index};
 use places::Home;
 use state_sides::{Machine, State, Step, type_at};
 use std::alloc::AllocError;
+use step_parts::{address, number, value};
 use sym_bytes::{Pointer, SymValue};
 use terms::{Term, Terms};
 use write_log::{Index, SymMemory};

@@ -13,13 +13,13 @@ ghost use Rattle.state_sides.specs.Offers.{tested_seen};
 ghost use Rattle.state_sides.specs.Views.{context_of, state_seen, step_seen};
 
 use crate::making::{gives_term, gives_value};
-use crate::operands::{number, value};
 use decider::Decide;
 use flat_ir::{Operand, RegId};
 use node_values::{chosen, is_small, null, pointer_to, size_in, term_in, truth_of};
 use places::Home;
 use state_sides::{Machine, State, Step, Tested};
 use std::alloc::AllocError;
+use step_parts::{number, value};
 use sym_bytes::{Entry, SymValue, ValueKind};
 use terms::{Term, Terms};
 use write_log::SymMemory;

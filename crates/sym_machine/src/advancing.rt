@@ -13,7 +13,7 @@ use leaves::Cause;
 use places::Home;
 use state_sides::{Machine, State, Step, node_in, opens};
 use std::alloc::AllocError;
-use step_tests::fails;
+use step_parts::fails;
 use sym_states::Place;
 use write_log::SymMemory;
 

@@ -10,11 +10,10 @@ ghost use Rattle.sym_machine.specs.Kinds.{IsEnding};
 use call_steps::exits;
 use decider::Decide;
 use flat_ir::{FaultKind, Node, Operand};
-use number_steps::value;
 use places::Home;
 use state_sides::{Flow, Machine, State, Step};
 use std::alloc::AllocError;
-use step_tests::{fails, firm};
+use step_parts::{fails, firm, value};
 use terms::Terms;
 use write_log::SymMemory;
 

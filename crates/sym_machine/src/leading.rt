@@ -15,7 +15,7 @@ use number_steps::{branches, puts, switches, takes_input};
 use places::Home;
 use state_sides::{Flow, Machine, State, Step};
 use std::alloc::AllocError;
-use step_tests::{firm, knows};
+use step_parts::{firm, knows};
 use sym_bytes::Wanted;
 use write_log::SymMemory;
 

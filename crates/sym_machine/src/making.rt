@@ -16,7 +16,7 @@ use places::Home;
 use plain_list::Sequence;
 use state_sides::{Flow, Machine, State, Step};
 use std::alloc::{AllocError, Global};
-use step_tests::firm;
+use step_parts::firm;
 use write_log::SymMemory;
 
 fn bin<H: Home, K: SymMemory, D: Decide>(

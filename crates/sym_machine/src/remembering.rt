@@ -13,11 +13,11 @@ use decider::Decide;
 use flat_ir::{Node, Operand, RegId};
 use memory_steps::{copies_from, frees, loads_at, stores_at};
 use node_values::wide;
-use number_steps::{address, asks_memory, makes};
+use number_steps::{asks_memory, makes};
 use places::Home;
 use state_sides::{Flow, Machine, State, Step, type_at};
 use std::alloc::AllocError;
-use step_tests::firm;
+use step_parts::{address, firm};
 use write_log::SymMemory;
 
 fn alloca<H: Home, K: SymMemory, D: Decide>(

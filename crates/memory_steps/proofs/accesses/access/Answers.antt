@@ -3,7 +3,7 @@ use Rattle.sym_states.specs.Attempts.{access}
 use Rattle.state_laws.specs.Kept.{ReachedFits}
 use Rattle.state_laws.proofs.Accesses.{access-fits}
 use Rattle.state_sides.specs.Views.{state_seen, flow_seen, context_of}
-use Rattle.step_tests.proofs.Flows.{ok-fits}
+use Rattle.step_parts.proofs.Flows.{ok-fits}
 use Rattle.memory_steps.specs.Views.{reached_seen}
 use Rattle.memory_steps.proofs.accesses.access.Goals as goal
 

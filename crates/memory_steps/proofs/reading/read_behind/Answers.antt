@@ -7,7 +7,7 @@ use Rattle.sym_states.proofs.Widths.{behind-fits}
 use Rattle.state_laws.specs.Kept.{ReadBytesFits}
 use Rattle.state_laws.proofs.Accesses.{read_one-fits}
 use Rattle.state_sides.specs.Views.{state_seen, flow_seen, context_of}
-use Rattle.step_tests.proofs.Flows.{ok-fits}
+use Rattle.step_parts.proofs.Flows.{ok-fits}
 use Rattle.memory_steps.specs.Views.{byte_seen}
 use Rattle.memory_steps.proofs.reading.read_behind.Goals as goal
 

@@ -3,7 +3,7 @@ use Rattle.sym_states.specs.Attempts.{reads}
 use Rattle.state_laws.specs.Kept.{ReadBytesFits}
 use Rattle.state_laws.proofs.Accesses.{reads-fits}
 use Rattle.state_sides.specs.Views.{flow_seen, context_of}
-use Rattle.step_tests.proofs.Flows.{ok-fits}
+use Rattle.step_parts.proofs.Flows.{ok-fits}
 use Rattle.memory_steps.specs.Views.{reached_seen, bytes_seen}
 use Rattle.memory_steps.proofs.reading.reads.Goals as goal
 

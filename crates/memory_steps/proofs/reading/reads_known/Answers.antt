@@ -2,7 +2,7 @@ use Rattle.std.proofs.Common.{◌≡◌, length, subst, sym, ap}
 use Rattle.terms.specs.Tree.{width_of}
 use Rattle.state_laws.specs.Kept.{FlowFits, StateFitsAt}
 use Rattle.state_sides.specs.Views.{state_seen, flow_seen}
-use Rattle.step_tests.proofs.Flows.{own-fits}
+use Rattle.step_parts.proofs.Flows.{own-fits}
 use Rattle.memory_steps.proofs.Behind.{term-own}
 use Rattle.memory_steps.proofs.reading.reads_known.Goals as goal
 

@@ -3,8 +3,8 @@ use Rattle.sym_states.specs.Attempts.{must}
 use Rattle.state_laws.specs.Kept.{StateFitsAt}
 use Rattle.state_laws.proofs.Accesses.{must-fits}
 use Rattle.state_sides.specs.Views.{state_seen, flow_seen, context_of}
-use Rattle.step_tests.proofs.Flows.{ok-fits}
-use Rattle.step_tests.proofs.faults.must.Goals as goal
+use Rattle.step_parts.proofs.Flows.{ok-fits}
+use Rattle.step_parts.proofs.faults.must.Goals as goal
 
 pub returns-clause-fits : goal.returns-clause-fits
 returns-clause-fits g c =

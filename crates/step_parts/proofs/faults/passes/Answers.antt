@@ -1,8 +1,8 @@
 use Rattle.std.proofs.Common.{length, ap, sym, ◌∙◌}
 use Rattle.state_sides.specs.Offers.{tested_seen}
 use Rattle.state_sides.specs.Views.{state_seen, context_of}
-use Rattle.step_tests.proofs.Flows.{bad-fits}
-use Rattle.step_tests.proofs.faults.passes.Goals as goal
+use Rattle.step_parts.proofs.Flows.{bad-fits}
+use Rattle.step_parts.proofs.faults.passes.Goals as goal
 
 pub fails-requires : goal.fails-requires
 fails-requires g c = record {

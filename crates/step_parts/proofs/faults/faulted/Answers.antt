@@ -2,7 +2,7 @@ use Rattle.std.proofs.Common.{length, subst, sym}
 use Rattle.leaves.specs.Fitting.{AreTermsOf}
 use Rattle.state_laws.proofs.Accesses.{output-at}
 use Rattle.state_sides.specs.Views.{state_seen}
-use Rattle.step_tests.proofs.faults.faulted.Goals as goal
+use Rattle.step_parts.proofs.faults.faulted.Goals as goal
 
 pub ends-requires-clause-output : goal.ends-requires-clause-output
 ends-requires-clause-output g c =

@@ -1,8 +1,8 @@
 use Rattle.std.proofs.Common.{◌≡◌, length}
 use Rattle.sym_states.specs.Terms.{pending_in}
 use Rattle.state_sides.specs.Views.{state_seen}
-use Rattle.step_tests.proofs.Flows.{pending_onto}
-use Rattle.step_tests.proofs.needs.pending_in.Given as goal
+use Rattle.step_parts.proofs.Flows.{pending_onto}
+use Rattle.step_parts.proofs.needs.pending_in.Given as goal
 
 -- what is left to be put leads to the whole
 abbrev pub invariant-operands : goal.invariant-operands

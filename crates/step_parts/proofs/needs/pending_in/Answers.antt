@@ -1,8 +1,8 @@
 use Rattle.std.proofs.Common.{[], ap, sym, ◌∙◌}
 use Rattle.sym_states.specs.Terms.{pending_in}
 use Rattle.state_sides.specs.Views.{state_seen}
-use Rattle.step_tests.proofs.Flows.{pending_onto, onto_none, onto_last}
-use Rattle.step_tests.proofs.needs.pending_in.Goals as goal
+use Rattle.step_parts.proofs.Flows.{pending_onto, onto_none, onto_last}
+use Rattle.step_parts.proofs.needs.pending_in.Goals as goal
 
 pub operands-init : goal.operands-init
 operands-init g c =
