@@ -16,28 +16,43 @@ use Rattle.sym_states.specs.States.{Frame, State, Context, Child, Go, Stop, Step
 use Rattle.exploration_laws.specs.Begins.{StepBegins, ChildrenBegin, AttemptsBegin}
 use Rattle.exploration_laws.specs.Falls.{IsPlacedIn, IsPlaced, ChildrenFall, StepFalls, AttemptsFall}
 use Rattle.exploration_laws.specs.Has.{StepHas, ChildrenHave, AttemptsHave}
-use Rattle.exploration_laws.proofs.Givers.{Giver, ChildrenAreFrom, StepIsFrom, begins-same}
+use Rattle.exploration_laws.proofs.Givers.{Holds, Giver, Keeps, ChildrenAreFrom, StepIsFrom, begins-same}
 use Rattle.exploration_laws.proofs.Walks.{fails-from, ends_frame-from, executes-from}
 
 -- ---- of any context
 
-abbrev giver_of : State → ℕ → Option Target → Giver
-giver_of s left within = record { first = s.condition; left = left; at = s.target; within = within }
+-- the recovery in which a frame may stand anywhere
+abbrev pub anywhere : Option Target
+anywhere = Some (record { call = record { 0 = 0 }; at = location.Input; length = 0 })
+
+abbrev pub giver_of : Holds → State → ℕ → Option Target → Giver
+giver_of holds s left within = record { first = s.condition; left = left; at = s.target; within = within; holds = holds }
+
+-- what holds of all logs and snapshots
+abbrev pub anything : Holds
+anything log shots = Unit {0}
+
+pub keeps-anything : (c : Context) → Keeps c anything
+keeps-anything c = record { entry = λ e log shots h. tt; skip = λ f args s h. tt }
 
 -- what is given by some giver with the state's condition and recovery
-pub record IsGivenBy (s : State) (a : Step) : Type 0 where
+pub record IsGivenBy (holds : Holds) (s : State) (a : Step) : Type 0 where
   pub left : ℕ
-  pub given : StepIsFrom (record { first = s.condition; left = left; at = s.target; within = Some (record { call = record { 0 = 0 }; at = location.Input; length = 0 }) }) a
+  pub given : StepIsFrom (giver_of holds s left anywhere) a
 
-at-given : (c : Context) (place : Place) (s : State) → IsGivenBy s (attempt_at c place s)
-at-given c (At n) s =
-    elim s.left as (λ m. s.left ≡ m → IsGivenBy s (elim m [ zero ↦ opens Steps s | suc left ↦ executes c (code_of c.program s.frame) (with_left left s) ])) [
-      | zero ↦ (λ is. record { left = s.left; given = (begins-same s.condition, (refl, tt)) })
-      | suc left ↦ (λ is. record { left = left; given = executes-from c (giver_of s left (Some (record { call = record { 0 = 0 }; at = location.Input; length = 0 }))) (λ k frame. tt) (λ f. tt) (code_of c.program s.frame) (with_left left s) (begins-same s.condition, (refl, (refl, tt))) })
-    ]
-    refl
-at-given c End s = record { left = s.left; given = ends_frame-from c (giver_of s s.left (Some (record { call = record { 0 = 0 }; at = location.Input; length = 0 }))) (λ k frame. tt) (λ f. tt) None s (begins-same s.condition, (refl, (refl, tt))) }
-at-given c (Never n) s = record { left = s.left; given = fails-from c (giver_of s s.left (Some (record { call = record { 0 = 0 }; at = location.Input; length = 0 }))) (λ k frame. tt) (λ f. tt) fault.NoReturn s (begins-same s.condition, (refl, (refl, tt))) }
+module _ (holds : Holds) (c : Context) (keeps : Keeps c holds) where
+  at-given : (place : Place) (s : State) → holds s.memory.log s.snapshots → IsGivenBy holds s (attempt_at c place s)
+  at-given (At n) s h =
+      elim s.left as (λ m. s.left ≡ m → IsGivenBy holds s (elim m [ zero ↦ opens Steps s | suc left ↦ executes c (code_of c.program s.frame) (with_left left s) ])) [
+        | zero ↦ (λ is. record { left = s.left; given = (begins-same s.condition, (refl, tt)) })
+        | suc left ↦ (λ is. record { left = left; given = executes-from c (giver_of holds s left anywhere) (λ k frame. tt) (λ f. tt) keeps (code_of c.program s.frame) (with_left left s) (begins-same s.condition, (refl, ((refl, h), tt))) })
+      ]
+      refl
+  at-given End s h = record { left = s.left; given = ends_frame-from c (giver_of holds s s.left anywhere) (λ k frame. tt) (λ f. tt) keeps None s (begins-same s.condition, (refl, ((refl, h), tt))) }
+  at-given (Never n) s h = record { left = s.left; given = fails-from c (giver_of holds s s.left anywhere) (λ k frame. tt) (λ f. tt) keeps fault.NoReturn s (begins-same s.condition, (refl, ((refl, h), tt))) }
+
+  pub attempt-given : (s : State) → holds s.memory.log s.snapshots → IsGivenBy holds s (attempt c s)
+  attempt-given s h = at-given s.frame.place s h
 
 children-begin : (g : Giver) (cs : List Child) → ChildrenAreFrom g cs → ChildrenBegin g.first cs
 children-begin g [] h = tt
@@ -51,21 +66,21 @@ step-begins g (Needs s calls) h = h.0.0
 step-begins g (Ends l) h = h.0
 
 pub attempts-begin : AttemptsBegin
-attempts-begin c s = let h = at-given c s.frame.place s in step-begins (giver_of s h.left (Some (record { call = record { 0 = 0 }; at = location.Input; length = 0 }))) (attempt c s) h.given
+attempts-begin c s = let h = attempt-given anything c (keeps-anything c) s tt in step-begins (giver_of anything s h.left anywhere) (attempt c s) h.given
 
 children-have : (g : Giver) (cs : List Child) → ChildrenAreFrom g cs → ChildrenHave g.at cs
 children-have g [] h = tt
-children-have g (Go s ∷ cs) h = (h.0.1.1.0, children-have g cs h.1)
+children-have g (Go s ∷ cs) h = (h.0.1.1.0.0, children-have g cs h.1)
 children-have g (Stop l ∷ cs) h = (h.0.1.1, children-have g cs h.1)
 
 step-has : (g : Giver) (a : Step) → StepIsFrom g a → StepHas g.at a
-step-has g (Goes s) h = h.1.1.0
+step-has g (Goes s) h = h.1.1.0.0
 step-has g (Forks cs) h = children-have g cs h
-step-has g (Needs s calls) h = h.0.1.1.0
+step-has g (Needs s calls) h = h.0.1.1.0.0
 step-has g (Ends l) h = h.1.1
 
 pub attempts-have : AttemptsHave
-attempts-have c s = let h = at-given c s.frame.place s in step-has (giver_of s h.left (Some (record { call = record { 0 = 0 }; at = location.Input; length = 0 }))) (attempt c s) h.given
+attempts-have c s = let h = attempt-given anything c (keeps-anything c) s tt in step-has (giver_of anything s h.left anywhere) (attempt c s) h.given
 
 -- ---- where the slice of the recovery is in force
 
@@ -104,13 +119,13 @@ placed-there at s is h = subst (λ t. IsPlacedIn t s.frame.place) (sym is) h
 
 children-fall : (g : Giver) (cs : List Child) → g.within ≡ g.at → ChildrenAreFrom g cs → ChildrenFall (suc g.left) cs
 children-fall g [] same h = tt
-children-fall g (Go s ∷ cs) same h = ((fewer s.left g.left h.0.1.0, placed-there g.at s h.0.1.1.0 (subst (λ t. IsPlacedIn t s.frame.place) same h.0.1.1.1)), children-fall g cs same h.1)
+children-fall g (Go s ∷ cs) same h = ((fewer s.left g.left h.0.1.0, placed-there g.at s h.0.1.1.0.0 (subst (λ t. IsPlacedIn t s.frame.place) same h.0.1.1.1)), children-fall g cs same h.1)
 children-fall g (Stop l ∷ cs) same h = ((fewer (told_of l).left g.left h.0.1.0, tt), children-fall g cs same h.1)
 
 step-falls : (g : Giver) (a : Step) → g.within ≡ g.at → StepIsFrom g a → StepFalls (suc g.left) a
-step-falls g (Goes s) same h = (still s.left g.left h.1.0, placed-there g.at s h.1.1.0 (subst (λ t. IsPlacedIn t s.frame.place) same h.1.1.1))
+step-falls g (Goes s) same h = (still s.left g.left h.1.0, placed-there g.at s h.1.1.0.0 (subst (λ t. IsPlacedIn t s.frame.place) same h.1.1.1))
 step-falls g (Forks cs) same h = children-fall g cs same h
-step-falls g (Needs s calls) same h = ((fewer s.left g.left h.0.1.0, placed-there g.at s h.0.1.1.0 (subst (λ t. IsPlacedIn t s.frame.place) same h.0.1.1.1)), h.1)
+step-falls g (Needs s calls) same h = ((fewer s.left g.left h.0.1.0, placed-there g.at s h.0.1.1.0.0 (subst (λ t. IsPlacedIn t s.frame.place) same h.0.1.1.1)), h.1)
 step-falls g (Ends l) same h = still (told_of l).left g.left h.1.0
 
 reflexive : (n : ℕ) → n ≤ n
@@ -140,9 +155,9 @@ at-falls e (At n) s h there =
     let c = context_of e s in
     elim s.left as (λ m. s.left ≡ m → StepFalls m (elim m [ zero ↦ opens Steps s | suc left ↦ executes c (code_of c.program s.frame) (with_left left s) ])) [
       | zero ↦ (λ is. no-more s.left 0 is)
-      | suc left ↦ (λ is. step-falls (giver_of s left s.target) (executes c (code_of c.program s.frame) (with_left left s)) refl
-          (executes-from c (giver_of s left s.target) (λ k frame. after-placed s.target c.program c.residual k frame (sliced e s)) (λ f. first-placed s.target c.residual f (sliced e s))
-          (code_of c.program s.frame) (with_left left s) (begins-same s.condition, (refl, (refl, there)))))
+      | suc left ↦ (λ is. step-falls (giver_of anything s left s.target) (executes c (code_of c.program s.frame) (with_left left s)) refl
+          (executes-from c (giver_of anything s left s.target) (λ k frame. after-placed s.target c.program c.residual k frame (sliced e s)) (λ f. first-placed s.target c.residual f (sliced e s))
+          (keeps-anything c) (code_of c.program s.frame) (with_left left s) (begins-same s.condition, (refl, ((refl, tt), there)))))
     ]
     refl
 at-falls e End s h there = end-falls (context_of e s) s.target s.callers s refl h

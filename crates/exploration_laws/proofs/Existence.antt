@@ -19,9 +19,9 @@ use Rattle.sym_states.specs.Merging.{merged}
 use Rattle.sym_states.specs.States.{Frame, State, Context, Child, Go, Stop, Step, Goes, Forks, Needs, Ends, Needed, then_step, unless_needed, code_of, opens}
 use Rattle.exploration_laws.specs.Falls.{IsPlaced, left_of, ChildIsPlaced, ChildrenFall, ChildrenHaveNoMore, StepFalls, MergeHasNoMore}
 use Rattle.exploration_laws.specs.Exist.{HasAnswer, HasEvaluation, AnswersAreReached, EvaluationsExist, ExplorationsExist}
-use Rattle.exploration_laws.proofs.Givers.{Giver, StepIsFrom, begins-same}
+use Rattle.exploration_laws.proofs.Givers.{StepIsFrom, begins-same}
 use Rattle.exploration_laws.proofs.Walks.{executes-from}
-use Rattle.exploration_laws.proofs.Attempts.{attempts-fall}
+use Rattle.exploration_laws.proofs.Attempts.{anywhere, giver_of, anything, keeps-anything, attempts-fall}
 use Rattle.exploration_laws.proofs.Merges.{roots-fall, merges-fall}
 
 -- ---- what goes on has fewer steps left, or as many and a frame less
@@ -64,23 +64,19 @@ leaves-less c (caller ∷ callers) s t is e = record {
   callers = is ∙ ap (λ a. caller ∷ (state-of s a).callers) e;
 }
 
--- a frame may stand anywhere in it
-abbrev giver : State → ℕ → Giver
-giver s left = record { first = s.condition; left = left; at = s.target; within = Some (record { call = record { 0 = 0 }; at = location.Input; length = 0 }) }
-
 at-less : (c : Context) (place : Place) (s t : State) → attempt_at c place s ≡ Goes t → (t.left < s.left) ⊎ IsShorter s t
 at-less c (At n) s t =
     elim s.left as (λ m. s.left ≡ m → elim m [ zero ↦ opens Steps s | suc left ↦ executes c (code_of c.program s.frame) (with_left left s) ] ≡ Goes t → (t.left < s.left) ⊎ IsShorter s t) [
       | zero ↦ (λ is e. absurd (no-going e))
-      | suc left ↦ (λ is e. inl (fewer t.left left s.left (subst (StepIsFrom (giver s left)) e (given left)).1.0 is))
+      | suc left ↦ (λ is e. inl (fewer t.left left s.left (subst (StepIsFrom (giver_of anything s left anywhere)) e (given left)).1.0 is))
     ]
     refl
   where
     no-going : opens Steps s ≡ Goes t → ⊥
     no-going e = cc
 
-    given : (left : ℕ) → StepIsFrom (giver s left) (executes c (code_of c.program s.frame) (with_left left s))
-    given left = executes-from c (giver s left) (λ k frame. tt) (λ f. tt) (code_of c.program s.frame) (with_left left s) (begins-same s.condition, (refl, (refl, tt)))
+    given : (left : ℕ) → StepIsFrom (giver_of anything s left anywhere) (executes c (code_of c.program s.frame) (with_left left s))
+    given left = executes-from c (giver_of anything s left anywhere) (λ k frame. tt) (λ f. tt) (keeps-anything c) (code_of c.program s.frame) (with_left left s) (begins-same s.condition, (refl, ((refl, tt), tt)))
 at-less c End s t = λ e. inr (leaves-less c s.callers s t refl e)
 at-less c (Never n) s t = λ e. absurd (fails-stays s.target fault.NoReturn s t e)
 

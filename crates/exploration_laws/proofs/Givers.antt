@@ -7,12 +7,17 @@ use Rattle.terms.specs.Value.{is_met_by}
 use Rattle.term_store.specs.Condition.{answer, negation}
 use Rattle.term_store.specs.declared.conditions.Added.{Added}
 use Rattle.term_store.specs.declared.conditions.Added.TheVariants.{Held, Appended, Contradicted}
+use Rattle.flat_ir.specs.declared.names.FuncId.{FuncId}
+use Rattle.sym_bytes.specs.Entry.{Entry}
+use Rattle.sym_bytes.specs.Value.{SymValue}
+use Rattle.log_laws.specs.Logs.{Log, Did, Marked}
 use Rattle.leaves.specs.declared.options.Cause.{Cause}
 use Rattle.leaves.specs.declared.options.Cause.TheVariants.{Shares}
 use Rattle.leaves.specs.Events.{Leaf, told_of}
 use Rattle.sym_states.specs.declared.frames.Target.{Target}
+use Rattle.sym_states.specs.Attempts.{next_call, snapshot_of, mods_of}
 use Rattle.sym_states.specs.Sides.{Offspring, Lives, Spends, by_verdict, offspring_of, offsprings, held_side, Offer, Alone, Several, alone, offer, share_of, children_of, forks, stays, Tested, Good, Bad, Answered, tested, test, taken, choose_way}
-use Rattle.sym_states.specs.States.{State, Context, Child, Go, Stop, Step, Goes, Forks, Needs, Ends, Flow, On, Over, opens}
+use Rattle.sym_states.specs.States.{Snapshot, State, Context, Child, Go, Stop, Step, Goes, Forks, Needs, Ends, Flow, On, Over, opens}
 use Rattle.sym_states.specs.Verdicts.{Verdict, Sat, Unsat, Spent}
 use Rattle.exploration_laws.specs.Begins.{BeginsWith}
 use Rattle.exploration_laws.specs.Falls.{IsPlacedIn}
@@ -31,15 +36,21 @@ begins-more first all more h = record { rest = h.rest ++ more; is = ap (λ ts. t
 pub begins-through : (first middle all : List Tree) → BeginsWith first middle → BeginsWith middle all → BeginsWith first all
 begins-through first middle all h k = record { rest = h.rest ++ k.rest; is = k.is ∙ ap (λ ts. ts ++ k.rest) h.is ∙ append_assoc first h.rest k.rest }
 
--- the giver's first conjuncts, its steps left, its recovery, and the one whose places its frames may stand at
-pub record Giver : Type 0 where
+-- what holds of a log and of snapshots
+abbrev pub Holds : Type 1
+Holds = Log → List Snapshot → Type 0
+
+-- the giver's first conjuncts, its steps left, its recovery, the one whose places its frames may stand at, and what holds of the log
+-- and the snapshots
+pub record Giver : Type 1 where
   pub first : List Tree
   pub left : ℕ
   pub at : Option Target
   pub within : Option Target
+  pub holds : Holds
 
 abbrev pub IsFrom : Giver → State → Type 0
-IsFrom g s = BeginsWith g.first s.condition × ((s.left ≡ g.left) × ((s.target ≡ g.at) × IsPlacedIn g.within s.frame.place))
+IsFrom g s = BeginsWith g.first s.condition × ((s.left ≡ g.left) × (((s.target ≡ g.at) × g.holds s.memory.log s.snapshots) × IsPlacedIn g.within s.frame.place))
 
 abbrev pub LeafIsFrom : Giver → Leaf → Type 0
 LeafIsFrom g l = BeginsWith g.first (told_of l).condition × (((told_of l).left ≡ g.left) × LeafHas l g.at)
@@ -54,6 +65,12 @@ StepIsFrom g (Goes s) = IsFrom g s
 StepIsFrom g (Forks cs) = ChildrenAreFrom g cs
 StepIsFrom g (Needs s calls) = IsFrom g s × (calls ≡ [] → ⊥)
 StepIsFrom g (Ends l) = LeafIsFrom g l
+
+-- an entry keeps what holds, and so does a skipped call
+pub record Keeps (c : Context) (holds : Holds) : Type 0 where
+  pub entry : (e : Entry) (log : Log) (shots : List Snapshot) → holds log shots → holds (Did e ∷ log) shots
+  pub skip : (f : FuncId) (args : List SymValue) (s : State) → holds s.memory.log s.snapshots
+      → holds (Marked (next_call s) (mods_of c f) [] ∷ s.memory.log) (s.snapshots ++ snapshot_of f args s ∷ [])
 
 -- a part goes on with a state that is given, or its answer is
 abbrev pub FlowIsFrom : {A : Type 0} → Giver → (A → State) → Flow A → Type 0

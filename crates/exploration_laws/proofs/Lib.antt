@@ -6,3 +6,4 @@ pub mod Evaluations
 pub mod Existence
 pub mod Cuts
 pub mod Open
+pub mod Calls

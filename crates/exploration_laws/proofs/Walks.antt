@@ -1,5 +1,5 @@
 -- What an attempt gives is from its state: conditions grow, and the steps left and the recovery stay.
-use Rattle.std.proofs.Common.{◌≡◌, ℕ, zero, suc, Bool, true, false, ◌+◌, ◌-◌, ◌^◌, List, [], ◌∷◌, map, length, take, Option, Some, None, refl, subst}
+use Rattle.std.proofs.Common.{◌≡◌, ℕ, zero, suc, Bool, true, false, ◌+◌, ◌-◌, ◌^◌, List, [], ◌∷◌, map, ◌++◌, length, reverse, take, Option, Some, None, refl, subst}
 use Rattle.std.specs.Prelude.{cond}
 use Rattle.std.specs.List.{AllByRecursion as Each, flat_map}
 use Rattle.std.specs.Option.{option_map, option_to_list}
@@ -17,7 +17,7 @@ use Rattle.flat_ir.specs.declared.nodes.Operand.{Operand}
 use Rattle.flat_ir.specs.declared.nodes.RegType.{RegType}
 use Rattle.flat_ir.specs.declared.values.FaultKind.{FaultKind}
 use Rattle.flat_ir.specs.declared.values.FaultKind.TheVariants as fault
-use Rattle.flat_ir.specs.Machine.{type_at}
+use Rattle.flat_ir.specs.Machine.{func_at, nodes_of, type_at}
 use Rattle.flat_ir.specs.Registers.{bytes_of_type}
 use Rattle.flat_ir.specs.Steps.{made_by_malloc, width_of}
 use Rattle.flat_ir.specs.Whole.{operands_of_part}
@@ -35,15 +35,16 @@ use Rattle.sym_bytes.specs.Value.{SymValue, Int, Ptr, Pending}
 use Rattle.log_laws.specs.Logs.{Log, Did, Marked, life, position, lies_in, entries_in, entries_since}
 use Rattle.log_laws.specs.Needs.{need, location_of}
 use Rattle.log_laws.specs.Reading.{read_byte}
+use Rattle.write_log.specs.Memory.{with_item}
 use Rattle.leaves.specs.declared.options.Cause.TheVariants.{Steps}
 use Rattle.sym_states.specs.declared.frames.Target.{Target}
-use Rattle.sym_states.specs.Attempts.{knows, firm, faulted, fails_in, fails, passed, must, Reached, reached, access_alive, access_base, access, ReadBytes, either_way, read_on, read_one, before, read_all, reads, Valued, valued, joins, join_read, loaded, loads, writes, copies, frees_object, frees_made, frees_alive, frees_base, frees, divides_by, divides_signed, divides, gives_term, compares, casts, places, picks, selects, mallocs, enters, skips, is_skipped, calls, took, ended, completed, completes, if_result, ends_first, leaves_to, ends_frame, is_main_end, returns, exits, computes, chooses, asks_memory, loads_at, stores_at, copies_from, takes_input, puts, branches, switches, executes}
+use Rattle.sym_states.specs.Attempts.{knows, firm, faulted, fails_in, fails, passed, must, Reached, reached, access_alive, access_base, access, ReadBytes, either_way, read_on, read_one, before, read_all, reads, Valued, valued, joins, join_read, loaded, loads, writes, copies, frees_object, frees_made, frees_alive, frees_base, frees, divides_by, divides_signed, divides, gives_term, compares, casts, places, picks, selects, mallocs, enters, skips, is_skipped, calls, took, ended, frees_from, next_call, snapshot_of, mods_of, result_type, completed, completes, if_result, ends_first, leaves_to, ends_frame, is_main_end, returns, exits, computes, chooses, asks_memory, loads_at, stores_at, copies_from, takes_input, puts, branches, switches, executes}
 use Rattle.sym_states.specs.Sides.{Tested, Good, Bad, Answered, test}
-use Rattle.sym_states.specs.States.{Frame, State, Context, Step, Flow, On, Over, then_flow, then_step, unless_needed, in_frame, appended, made_now, counted, set_if, gives, goes_on, place_after, place_first}
-use Rattle.sym_states.specs.Terms.{value_in, number_in, address_in, pending_in, term_in, calculated, compared_values, cast_to, moved_by_all, input_at, chosen, set_all, is_within, is_start, is_nonzero, has_quotient, is_small, size_in, truth_of, branch_sides, switch_sides, byte_resolved, joined_as, bytes_of_value, stored_bytes}
+use Rattle.sym_states.specs.States.{Frame, Snapshot, State, Context, Step, Flow, On, Over, then_flow, then_step, unless_needed, in_frame, appended, made_now, counted, set_if, gives, goes_on, place_after, place_first}
+use Rattle.sym_states.specs.Terms.{value_in, number_in, address_in, pending_in, term_in, calculated, compared_values, cast_to, moved_by_all, input_at, chosen, set_all, is_within, is_start, low_byte, is_nonzero, has_quotient, is_small, size_in, truth_of, branch_sides, switch_sides, byte_resolved, joined_as, bytes_of_value, stored_bytes}
 use Rattle.exploration_laws.specs.Falls.{IsPlacedIn}
 use Rattle.exploration_laws.specs.Has.{IsOutside, ResultLiesIn, DoneLiesIn}
-use Rattle.exploration_laws.proofs.Givers.{Giver, IsFrom, StepIsFrom, FlowIsFrom, TestedIsFrom, IsTakenFrom, opens-from, test-from, choose_way-from}
+use Rattle.exploration_laws.proofs.Givers.{Giver, Keeps, IsFrom, StepIsFrom, FlowIsFrom, TestedIsFrom, IsTakenFrom, opens-from, test-from, choose_way-from}
 
 -- ---- what a recovery gives lies in its location
 
@@ -60,7 +61,21 @@ result-lies : (at : Location) (v : Option SymValue) → ResultLiesIn at (if_resu
 result-lies location.Result v = tt
 result-lies _ v = refl
 
-module _ (c : Context) (g : Giver) (moves : (k : ℕ) (frame : Frame) → IsPlacedIn g.within (place_after c.program c.residual k frame)) (starts : (f : FuncId) → IsPlacedIn g.within (place_first c.residual f)) where
+module _ (c : Context) (g : Giver) (moves : (k : ℕ) (frame : Frame) → IsPlacedIn g.within (place_after c.program c.residual k frame)) (starts : (f : FuncId) → IsPlacedIn g.within (place_first c.residual f)) (keeps : Keeps c g.holds) where
+  -- ---- the log
+
+  with_entry : (e : Entry) (s : State) → IsFrom g s → IsFrom g (appended e s)
+  with_entry e s from = (from.0, (from.1.0, ((from.1.1.0.0, keeps.entry e s.memory.log s.snapshots from.1.1.0.1), from.1.1.1)))
+
+  with_entries : (es : List Entry) (log : Log) (shots : List Snapshot) → g.holds log shots → g.holds (map Did es ++ log) shots
+  with_entries [] log shots h = h
+  with_entries (e ∷ es) log shots h = keeps.entry e (map Did es ++ log) shots (with_entries es log shots h)
+
+  ended-from : (s : State) → IsFrom g s → IsFrom g (ended c s)
+  ended-from s from =
+      let freed = reverse (frees_from s.frame 0 (nodes_of (func_at c.program s.frame.func))) in
+      (from.0, (from.1.0, ((from.1.1.0.0, with_entries freed s.memory.log s.snapshots from.1.1.0.1), from.1.1.1)))
+
   -- ---- parts that go on
 
   flow-from : {A B : Type 0} (f : A → State) (h : B → State) (flow : Flow A) (next : A → Flow B)
@@ -179,13 +194,13 @@ module _ (c : Context) (g : Giver) (moves : (k : ℕ) (frame : Frame) → IsPlac
   -- ---- what is written and freed
 
   writes-from : (bytes : List SymByte) (r : Reached) → IsFrom g r.state → StepIsFrom g (writes c bytes r)
-  writes-from bytes r from = goes_on-from r.state from
+  writes-from bytes r from = let e = entry.Write r.object r.offset bytes in goes_on-from (appended e r.state) (with_entry e r.state from)
 
   copies-from : (there : Pointer) (r : ReadBytes) → IsFrom g r.state → StepIsFrom g (copies c there r)
   copies-from there r from = step-from (λ (u : Reached). u.state) (access c 1 there r.state) (writes c r.bytes) (access-from 1 there r.state from) (λ u h. writes-from r.bytes u h)
 
   frees_made-from : (made : Bool) (x : ObjectName) (offset : Tree) (s : State) → IsFrom g s → StepIsFrom g (frees_made c made x offset s)
-  frees_made-from true x offset s from = step-from (λ u. u) (must c (is_start offset) fault.BadFree s) (frees_object c x) (must-from (is_start offset) fault.BadFree s from) (λ u h. goes_on-from u h)
+  frees_made-from true x offset s from = step-from (λ u. u) (must c (is_start offset) fault.BadFree s) (frees_object c x) (must-from (is_start offset) fault.BadFree s from) (λ u h. goes_on-from (appended (entry.Free x) u) (with_entry (entry.Free x) u h))
   frees_made-from false x offset s from = fails-from fault.BadFree s from
 
   frees_alive-from : (living : Living) (x : ObjectName) (offset : Tree) (s : State) → IsFrom g s → StepIsFrom g (frees_alive c living x offset s)
@@ -226,7 +241,8 @@ module _ (c : Context) (g : Giver) (moves : (k : ℕ) (frame : Frame) → IsPlac
   selects-from result condition (Pending call t) b s from = picks-from result (Pending call t) b (test c (truth_of condition) s) (test-from c g (truth_of condition) s from)
 
   mallocs-from : (result : Option RegId) (size : Tree) (t : Tested) → TestedIsFrom g t → StepIsFrom g (mallocs c result size t)
-  mallocs-from result size (Good s) from = gives-from result _ s from
+  mallocs-from result size (Good s) from =
+      let e = entry.Alloc (made_now s.frame) size in gives-from result (Some (pointer_to (made_now s.frame) 0)) (appended e s) (with_entry e s from)
   mallocs-from result size (Bad s) from = gives-from result (Some null) s from
   mallocs-from result size (Answered step) from = from
 
@@ -234,8 +250,12 @@ module _ (c : Context) (g : Giver) (moves : (k : ℕ) (frame : Frame) → IsPlac
 
   calls-from : (f : FuncId) (args : List SymValue) (result : Option RegId) (s : State) → IsFrom g s → StepIsFrom g (calls c f args result s)
   calls-from f args result s from =
-      elim (is_skipped c f s.target) as (λ b. StepIsFrom g (elim b [ true ↦ skips c f args result s | false ↦ enters c f args s ]))
-      [ true ↦ gives-from result _ s from | false ↦ (from.0, (from.1.0, (from.1.1.0, starts f))) ]
+      elim (is_skipped c f s.target) as (λ b. StepIsFrom g (elim b [ true ↦ skips c f args result s | false ↦ enters c f args s ])) [
+        | true ↦ gives-from result (option_map (Pending (next_call s)) (result_type (func_at c.program f)))
+            (record s { memory = with_item (Marked (next_call s) (mods_of c f) []) s.memory; snapshots = s.snapshots ++ snapshot_of f args s ∷ [] })
+            (from.0, (from.1.0, ((from.1.1.0.0, keeps.skip f args s from.1.1.0.1), from.1.1.1)))
+        | false ↦ (from.0, (from.1.0, (from.1.1.0, starts f)))
+      ]
 
   completes-from : (v : Option SymValue) (s : State) → IsOutside g.at → IsFrom g s → StepIsFrom g (completes v s)
   completes-from v s outside from = after-known answers.Output s (completed v) from (from.0, (from.1.0, (outside, tt)))
@@ -246,11 +266,11 @@ module _ (c : Context) (g : Giver) (moves : (k : ℕ) (frame : Frame) → IsPlac
       (from.0, (from.1.0, (subst (λ at. DoneLiesIn at (entries_since target.length target.at s.memory.log) (if_result target.at v)) is (entries-lie target.at (take (length s.memory.log - target.length) s.memory.log), result-lies target.at v), tt)))
 
   leaves_to-from : (v : Option SymValue) (callers : List Frame) (s : State) → IsFrom g s → StepIsFrom g (leaves_to c v callers s)
-  leaves_to-from v [] s from = ends_first-from s.target v s from.1.1.0 from
+  leaves_to-from v [] s from = ends_first-from s.target v s from.1.1.0.0 from
   leaves_to-from v (caller ∷ callers) s from = (from.0, (from.1.0, (from.1.1.0, moves 0 (set_if _ v caller))))
 
   pub ends_frame-from : (v : Option SymValue) (s : State) → IsFrom g s → StepIsFrom g (ends_frame c v s)
-  ends_frame-from v s from = leaves_to-from v s.callers (ended c s) from
+  ends_frame-from v s from = leaves_to-from v s.callers (ended c s) (ended-from s from)
 
   main-outside : (target : Option Target) (callers : List Frame) → is_main_end target callers ≡ true → IsOutside target
   main-outside None callers is = tt
@@ -263,7 +283,7 @@ module _ (c : Context) (g : Giver) (moves : (k : ℕ) (frame : Frame) → IsPlac
         | false ↦ ends_frame c (option_map (value_in s) value) (in_frame (counted s.frame) s)
       ])) [
         | true ↦ (λ is. after-firm (option_to_list value) s (λ u. completes (option_map (value_in u) value) u) from
-            (completes-from (option_map (value_in s) value) s (subst IsOutside from.1.1.0 (main-outside s.target s.callers is)) from))
+            (completes-from (option_map (value_in s) value) s (subst IsOutside from.1.1.0.0 (main-outside s.target s.callers is)) from))
         | false ↦ (λ is. ends_frame-from (option_map (value_in s) value) (in_frame (counted s.frame) s) from)
       ]
       refl
@@ -312,7 +332,7 @@ module _ (c : Context) (g : Giver) (moves : (k : ℕ) (frame : Frame) → IsPlac
       (gives-from (Some result) (Some (Ptr (record { base = (address_in s base).base; offset = moved_by_all s (address_in s base).offset parts }))) s from)
   executes-from (node.Select condition a b result next) s from =
       after-firm (condition ∷ a ∷ b ∷ []) s (chooses c condition a b result) from (selects-from result (number_in s condition) (value_in s a) (value_in s b) s from)
-  executes-from (node.Alloca size result next) s from = gives-from (Some result) (Some (pointer_to (made_now s.frame) 0)) (appended (entry.Alloc (made_now s.frame) (wide size)) s) from
+  executes-from (node.Alloca size result next) s from = gives-from (Some result) (Some (pointer_to (made_now s.frame) 0)) (appended (entry.Alloc (made_now s.frame) (wide size)) s) (with_entry (entry.Alloc (made_now s.frame) (wide size)) s from)
   executes-from (node.Malloc size result next) s from = after-firm (size ∷ []) s (asks_memory c size result) from (asks_memory-from size result s from)
   executes-from (node.Free pointer next) s from =
       after-firm (pointer ∷ []) s (λ u. frees c (address_in u pointer) u) from (frees_base-from (address_in s pointer).base (address_in s pointer).offset s from)
@@ -321,15 +341,15 @@ module _ (c : Context) (g : Giver) (moves : (k : ℕ) (frame : Frame) → IsPlac
   executes-from (node.Store value pointer next) s from = after-firm (pointer ∷ []) s (stores_at c value pointer) from (stores_at-from value pointer s from)
   executes-from (node.Copy source there next) s from = after-firm (source ∷ there ∷ []) s (copies_from c source there) from (copies_from-from source there s from)
   executes-from (node.In result next) s from =
-      after-known answers.Input s (takes_input c result) from (gives-from (Some result) (Some (Int (input_at (length s.kept) (position s.memory.log)))) (appended entry.Get s) from)
-  executes-from (node.Put value next) s from = after-firm (value ∷ []) s (puts c value) from (goes_on-from s from)
+      after-known answers.Input s (takes_input c result) from (gives-from (Some result) (Some (Int (input_at (length s.kept) (position s.memory.log)))) (appended entry.Get s) (with_entry entry.Get s from))
+  executes-from (node.Put value next) s from = after-firm (value ∷ []) s (puts c value) from (let e = entry.Put (low_byte (number_in s value)) in goes_on-from (appended e s) (with_entry e s from))
   executes-from (node.Call callee args result next) s from = calls-from callee (map (value_in s) args) result s from
   executes-from (node.Moves sets next) s from = (from.0, (from.1.0, (from.1.1.0, moves 0 (counted (set_all s sets s.frame)))))
   executes-from (node.Jump next) s from = goes_on-from s from
   executes-from (node.Branch condition first second) s from = after-firm (condition ∷ []) s (branches c condition) from (choose_way-from c g (branch_sides (number_in s condition)) s (took c) took-from from)
   executes-from (node.Switch value cases otherwise) s from = after-firm (value ∷ []) s (switches c value cases) from (choose_way-from c g (switch_sides (number_in s value) cases) s (took c) took-from from)
   executes-from (node.Ret value) s from = returns-from value s from
-  executes-from (node.Exit status) s from = after-firm (status ∷ []) s (λ u. exits u.target (value_in u status) u) from (exits-from s.target (value_in s status) s from.1.1.0 from)
+  executes-from (node.Exit status) s from = after-firm (status ∷ []) s (λ u. exits u.target (value_in u status) u) from (exits-from s.target (value_in s status) s from.1.1.0.0 from)
   executes-from node.Abort s from = fails-from fault.Abort s from
   executes-from (node.Assert args) s from = after-firm args s (fails fault.Assert) from (fails-from fault.Assert s from)
   executes-from node.Unreachable s from = fails-from fault.Unreachable s from

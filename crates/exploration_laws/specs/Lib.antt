@@ -4,3 +4,4 @@ pub mod Has
 pub mod Exist
 pub mod Cuts
 pub mod Open
+pub mod Calls

@@ -1,5 +1,6 @@
 //! What holds of every exploration.
 ghost use Rattle.exploration_laws.specs.Begins.{AttemptsBegin, RootsBegin, MergesBegin, EvaluationsBegin};
+ghost use Rattle.exploration_laws.specs.Calls.{FirstsKeepCalls, AttemptsKeepCalls, RootsKeepCalls, MergesKeepCalls, NeedsAreCalls};
 ghost use Rattle.exploration_laws.specs.Cuts.{CutsStand};
 ghost use Rattle.exploration_laws.specs.Falls.{AttemptsFall, RootsFall, MergesFall};
 ghost use Rattle.exploration_laws.specs.Has.{AttemptsHave, RootsHave, MergesHave, EvaluationsHave};
@@ -49,4 +50,15 @@ pub fn cut_logs_stand_for_the_history_before()
 pub fn needed_calls_are_open()
     ensures marks { NeedsAreOpen }
     ensures rise { NeedsRise }
+{}
+
+/// Calls are kept by whatever an exploration reaches, in recoveries and through merges too: snapshots are numbered from 1 in their
+/// order, the log has a mark of each of their calls and of no other, and each mark has what a call of its function may change. So what
+/// is needed for what is wanted of a log are calls of snapshots, each once.
+pub fn calls_are_kept()
+    ensures first { FirstsKeepCalls }
+    ensures attempts { AttemptsKeepCalls }
+    ensures roots { RootsKeepCalls }
+    ensures merges { MergesKeepCalls }
+    ensures needs { NeedsAreCalls }
 {}

@@ -5,6 +5,6 @@
 mod laws;
 
 pub use laws::{
-    conditions_begin_with_the_givers, cut_logs_stand_for_the_history_before, explorations_exist,
-    leaves_have_inputs, needed_calls_are_open, steps_left_fall,
+    calls_are_kept, conditions_begin_with_the_givers, cut_logs_stand_for_the_history_before,
+    explorations_exist, leaves_have_inputs, needed_calls_are_open, steps_left_fall,
 };
