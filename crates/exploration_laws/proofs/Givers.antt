@@ -17,7 +17,8 @@ use Rattle.leaves.specs.Events.{Leaf, told_of}
 use Rattle.sym_states.specs.declared.frames.Target.{Target}
 use Rattle.sym_states.specs.Attempts.{next_call, snapshot_of, mods_of}
 use Rattle.sym_states.specs.Sides.{Offspring, Lives, Spends, by_verdict, offspring_of, offsprings, held_side, Offer, Alone, Several, alone, offer, share_of, children_of, forks, stays, Tested, Good, Bad, Answered, tested, test, taken, choose_way}
-use Rattle.sym_states.specs.States.{Snapshot, State, Context, Child, Go, Stop, Step, Goes, Forks, Needs, Ends, Flow, On, Over, opens}
+use Rattle.skip_records.specs.Snapshots.{Snapshot}
+use Rattle.sym_states.specs.States.{State, Context, Child, Go, Stop, Step, Goes, Forks, Needs, Ends, Flow, On, Over, opens}
 use Rattle.sym_states.specs.Verdicts.{Verdict, Sat, Unsat, Spent}
 use Rattle.exploration_laws.specs.Begins.{BeginsWith}
 use Rattle.exploration_laws.specs.Falls.{IsPlacedIn}

@@ -40,7 +40,8 @@ use Rattle.leaves.specs.declared.options.Cause.TheVariants.{Steps}
 use Rattle.sym_states.specs.declared.frames.Target.{Target}
 use Rattle.sym_states.specs.Attempts.{knows, firm, faulted, fails_in, fails, passed, must, Reached, reached, access_alive, access_base, access, ReadBytes, either_way, read_on, read_one, before, read_all, reads, Valued, valued, joins, join_read, loaded, loads, writes, copies, frees_object, frees_made, frees_alive, frees_base, frees, divides_by, divides_signed, divides, gives_term, compares, casts, places, picks, selects, mallocs, enters, skips, is_skipped, calls, took, ended, frees_from, next_call, snapshot_of, mods_of, result_type, completed, completes, if_result, ends_first, leaves_to, ends_frame, is_main_end, returns, exits, computes, chooses, asks_memory, loads_at, stores_at, copies_from, takes_input, puts, branches, switches, executes}
 use Rattle.sym_states.specs.Sides.{Tested, Good, Bad, Answered, test}
-use Rattle.sym_states.specs.States.{Frame, Snapshot, State, Context, Step, Flow, On, Over, then_flow, then_step, unless_needed, in_frame, appended, made_now, counted, set_if, gives, goes_on, place_after, place_first}
+use Rattle.skip_records.specs.Snapshots.{Snapshot}
+use Rattle.sym_states.specs.States.{Frame, State, Context, Step, Flow, On, Over, then_flow, then_step, unless_needed, in_frame, appended, made_now, counted, set_if, gives, goes_on, place_after, place_first}
 use Rattle.sym_states.specs.Terms.{value_in, number_in, address_in, pending_in, term_in, calculated, compared_values, cast_to, moved_by_all, input_at, chosen, set_all, is_within, is_start, low_byte, is_nonzero, has_quotient, is_small, size_in, truth_of, branch_sides, switch_sides, byte_resolved, joined_as, bytes_of_value, stored_bytes}
 use Rattle.exploration_laws.specs.Falls.{IsPlacedIn}
 use Rattle.exploration_laws.specs.Has.{IsOutside, ResultLiesIn, DoneLiesIn}
