@@ -14,10 +14,10 @@ use Rattle.leaves.specs.declared.options.Cause.{Cause}
 use Rattle.leaves.specs.declared.options.Cause.TheVariants as cause
 use Rattle.leaves.specs.declared.options.Options.{Options}
 use Rattle.leaves.specs.Events.{Event, Branch, Load, Told, Leaf, Complete, Fault, Skipped, Open, Done, told_of}
-use Rattle.name_texts.specs.Lines.{line}
+use Rattle.name_texts.specs.Lines.{line, place_text}
 use Rattle.value_texts.specs.Values.{fault_text}
 use Rattle.leaf_lines.specs.Terms.{term_text}
-use Rattle.leaf_lines.specs.Values.{place_text, number_text, input_text, output_text, with_results, value_text}
+use Rattle.leaf_lines.specs.Values.{number_text, input_text, output_text, with_results, value_text}
 
 -- what was asked for: bytes of input, steps of a path, conflicts of a decision, shares of leaves
 abbrev pub options_line : Options → List ℕ

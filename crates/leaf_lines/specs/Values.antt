@@ -1,18 +1,14 @@
--- What a path shows as text: places, objects, numbers and values.
+-- What a path shows as text: objects, numbers and values.
 use Rattle.std.specs.Prelude.{ℕ, List, [], ◌∷◌, ◌++◌, map, reverse, codes, Option, Some, None, slice_get, if◌then◌else◌}
 use Rattle.std.specs.List.{flat_map}
 use Rattle.std.specs.Fmt.{decimal}
-use Rattle.ir_tree.specs.Texts.{global_text}
 use Rattle.bitnum.specs.Number.{Number}
 use Rattle.terms.specs.Tree.{Tree}
 use Rattle.terms.specs.Value.{value_of}
 use Rattle.terms.specs.Folding.{constant_of}
-use Rattle.flat_ir.specs.declared.names.FuncId.{FuncId}
-use Rattle.flat_ir.specs.declared.names.NodeId.{NodeId}
 use Rattle.flat_ir.specs.declared.names.CallStep.{CallStep}
 use Rattle.flat_ir.specs.declared.names.ObjectName.{ObjectName}
 use Rattle.flat_ir.specs.declared.names.ObjectName.TheVariants.{Global, Made}
-use Rattle.flat_ir.specs.declared.program.GlobalVar.{GlobalVar}
 use Rattle.flat_ir.specs.declared.program.ProgramData.{ProgramData}
 use Rattle.sym_bytes.specs.declared.names.Base.{Base}
 use Rattle.sym_bytes.specs.declared.names.Base.TheVariants.{Null, Object}
@@ -21,12 +17,8 @@ use Rattle.sym_bytes.specs.Pointers.{Pointer}
 use Rattle.sym_bytes.specs.Under.{bits_under}
 use Rattle.sym_bytes.specs.Value.{SymValue, Int, Ptr, Pending}
 use Rattle.leaves.specs.Events.{Recovered}
-use Rattle.name_texts.specs.Lines.{function_text}
+use Rattle.name_texts.specs.Lines.{place_text, global_named}
 use Rattle.value_texts.specs.Values.{bytes_text}
-
--- a node, by its function's name and its number
-abbrev pub place_text : ProgramData → FuncId → NodeId → List ℕ
-place_text p f n = function_text p f ++ (codes ":" ++ decimal n.0)
 
 -- ---- objects
 
@@ -41,11 +33,6 @@ call_text p s = step_text p s ++ codes "/"
 -- the calls that made a frame, the oldest first; a name has the newest first
 abbrev pub frame_text : ProgramData → List CallStep → List ℕ
 frame_text p frame = flat_map (call_text p) (reverse frame)
-
--- a global of the program
-abbrev pub global_named : Option GlobalVar → List ℕ
-global_named None = []
-global_named (Some g) = global_text g.name
 
 -- a global by its name behind a sign; what a node made by the frame and the execution that made it
 abbrev pub object_text : ProgramData → ObjectName → List ℕ

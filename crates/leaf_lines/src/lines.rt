@@ -8,12 +8,11 @@ ghost use Rattle.leaves.specs.Events.{told_of};
 ghost use Rattle.leaves.specs.Fitting.{AreTermsOf, EventFits, ToldFits, ValueFits};
 ghost use Rattle.leaf_lines.specs.Report as spec;
 
-use crate::objects::put_place;
 use crate::shown::{put_input, put_output, put_value, put_value_of, with_results};
 use crate::term_texts::put_term;
 use flat_ir::{FaultKind, FuncId, NodeId, Program};
 use leaves::{Cause, Event, EventKind, Leaf, LeafKind, Options, Told};
-use name_texts::put_name;
+use name_texts::{put_name, put_place};
 use places::Home;
 use plain_list::Sequence;
 use std::alloc::{AllocError, Global};

@@ -1,28 +1,13 @@
-//! Nodes and objects by their names.
-ghost use Rattle.std.specs.Prelude.{◌≡◌, ◌++◌, IfOk, OnOk, slice_get};
+//! Objects by their names.
+ghost use Rattle.std.specs.Prelude.{◌≡◌, ◌++◌, IfOk, OnOk};
 ghost use Rattle.std.specs.List.{flat_map};
 ghost use Rattle.leaf_lines.specs.Values as spec;
 
-use flat_ir::{CallStep, FrameName, FuncId, NodeId, ObjectName, Program};
-use name_texts::{put_function, put_name};
+use flat_ir::{CallStep, FrameName, ObjectName, Program};
+use name_texts::{put_global, put_place};
 use std::alloc::{AllocError, Global};
 use sym_bytes::Base;
 use value_texts::{put_number, put_text};
-
-/// A node, by its function's name and its number.
-pub(crate) fn put_place(
-    alloc: Global,
-    text: &mut Vec<u8>,
-    program: &Program,
-    func: FuncId,
-    node: NodeId,
-) -> Result<(), AllocError>
-    ensures { OnOk result (text.new.items ≡ text.old.items ++ spec.place_text program.now func node) }
-{
-    put_function(text, program, func)?;
-    put_text(text, ":")?;
-    put_number(alloc, text, u64::from(node.0))
-}
 
 // An execution of a node.
 fn put_step(
@@ -90,18 +75,6 @@ fn put_frame(
     let mut calls = calls_of(alloc, frame)?;
     calls.reverse();
     put_calls(alloc, text, program, calls.as_slice())
-}
-
-fn put_global(text: &mut Vec<u8>, program: &Program, global: u32) -> Result<(), AllocError>
-    ensures { OnOk result (text.new.items ≡ text.old.items ++ spec.global_named (slice_get program.now.globals global)) }
-{
-    match program.parts().globals.get(global as usize) {
-        Some(global) => {
-            put_text(text, "@")?;
-            put_name(text, global.name.as_slice())
-        }
-        None => Ok(()),
-    }
 }
 
 // An object.

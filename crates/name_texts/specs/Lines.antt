@@ -1,9 +1,12 @@
 -- Lines of text, and the names of a program that stand in them.
-use Rattle.std.specs.Prelude.{ℕ, List, [], ◌∷◌, ◌++◌, Option, Some, None, slice_get}
-use Rattle.ir_tree.specs.Texts.{name_text, local_text}
+use Rattle.std.specs.Prelude.{ℕ, List, [], ◌∷◌, ◌++◌, Option, Some, None, codes, slice_get}
+use Rattle.std.specs.Fmt.{decimal}
+use Rattle.ir_tree.specs.Texts.{name_text, global_text, local_text}
 use Rattle.flat_ir.specs.declared.names.FuncId.{FuncId}
+use Rattle.flat_ir.specs.declared.names.NodeId.{NodeId}
 use Rattle.flat_ir.specs.declared.names.RegId.{RegId}
 use Rattle.flat_ir.specs.declared.program.Func.{Func}
+use Rattle.flat_ir.specs.declared.program.GlobalVar.{GlobalVar}
 use Rattle.flat_ir.specs.declared.program.ProgramData.{ProgramData}
 use Rattle.flat_ir.specs.Machine.{func_at}
 
@@ -19,6 +22,15 @@ named (Some f) = name_text f.name
 
 abbrev pub function_text : ProgramData → FuncId → List ℕ
 function_text p f = named (func_at p f)
+
+-- a node, by its function's name and its number
+abbrev pub place_text : ProgramData → FuncId → NodeId → List ℕ
+place_text p f n = function_text p f ++ (codes ":" ++ decimal n.0)
+
+-- a global's name, behind its sign
+abbrev pub global_named : Option GlobalVar → List ℕ
+global_named None = []
+global_named (Some g) = global_text g.name
 
 -- a register's name, behind its sign
 abbrev pub register_named : Option (List ℕ) → List ℕ

@@ -3,9 +3,10 @@ ghost use Rattle.std.specs.Prelude.{◌≡◌, ◌<◌, ◌++◌, ◌∷◌, [],
 ghost use Rattle.ir_tree.specs.Texts as names;
 ghost use Rattle.name_texts.specs.Lines as spec;
 
-use flat_ir::{Func, FuncId, Program, RegId};
+use flat_ir::{Func, FuncId, NodeId, Program, RegId};
 use ir_lexer::classes::{is_number, is_plain_name};
-use std::alloc::AllocError;
+use std::alloc::{AllocError, Global};
+use value_texts::{put_number, put_text};
 
 fn upper_digit(digit: u8) -> u8
     requires { digit < 16 }
@@ -60,6 +61,34 @@ pub fn put_function(
 {
     match program.parts().funcs.get(function.0 as usize) {
         Some(function) => put_name(text, function.name.as_slice()),
+        None => Ok(()),
+    }
+}
+
+/// A node, by its function's name and its number.
+pub fn put_place(
+    alloc: Global,
+    text: &mut Vec<u8>,
+    program: &Program,
+    func: FuncId,
+    node: NodeId,
+) -> Result<(), AllocError>
+    ensures { OnOk result (text.new.items ≡ text.old.items ++ spec.place_text program.now func node) }
+{
+    put_function(text, program, func)?;
+    put_text(text, ":")?;
+    put_number(alloc, text, u64::from(node.0))
+}
+
+/// The name of a global, behind its sign.
+pub fn put_global(text: &mut Vec<u8>, program: &Program, global: u32) -> Result<(), AllocError>
+    ensures { OnOk result (text.new.items ≡ text.old.items ++ spec.global_named (slice_get program.now.globals global)) }
+{
+    match program.parts().globals.get(global as usize) {
+        Some(global) => {
+            put_text(text, "@")?;
+            put_name(text, global.name.as_slice())
+        }
         None => Ok(()),
     }
 }

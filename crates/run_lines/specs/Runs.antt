@@ -10,7 +10,7 @@ use Rattle.concrete_machine.specs.declared.running.Outcome.TheVariants as outcom
 use Rattle.concrete_machine.specs.declared.running.RunEnd.{RunEnd}
 use Rattle.concrete_machine.specs.declared.running.RunEnd.TheVariants as ended
 use Rattle.concrete_machine.specs.Running.{IsRunOf}
-use Rattle.name_texts.specs.Lines.{line, function_text}
+use Rattle.name_texts.specs.Lines.{line, place_text}
 use Rattle.value_texts.specs.Values.{bytes_text, fault_text}
 
 -- how each line ends
@@ -20,10 +20,6 @@ output_and_steps written steps = line (codes " output=" ∷ bytes_text written �
 -- the program ended
 abbrev pub complete_line : ℕ → List ℕ → ℕ → List ℕ
 complete_line status written steps = codes "complete status=" ++ (decimal status ++ output_and_steps written steps)
-
--- a node, by its function's name and its number
-abbrev pub place_text : ProgramData → FuncId → NodeId → List ℕ
-place_text p f n = function_text p f ++ (codes ":" ++ decimal n.0)
 
 abbrev pub fault_and_place : ProgramData → FaultKind → FuncId → NodeId → List ℕ
 fault_and_place p kind f n = codes "fault " ++ (fault_text kind ++ (codes " at=" ++ place_text p f n))

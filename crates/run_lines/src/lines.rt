@@ -6,7 +6,7 @@ ghost use Rattle.run_lines.specs.Runs as spec;
 
 use concrete_machine::{Outcome, RunEnd, run};
 use flat_ir::{FaultKind, FuncId, NodeId, Program};
-use name_texts::put_function;
+use name_texts::put_place;
 use std::alloc::{AllocError, Global};
 use value_texts::{fault_text, put_bytes, put_number, put_text};
 
@@ -38,21 +38,6 @@ fn put_complete(
     put_text(text, "complete status=")?;
     put_number(alloc, text, u64::from(status))?;
     put_output_and_steps(alloc, text, output, steps)
-}
-
-// A node, by its function's name and its number.
-fn put_place(
-    alloc: Global,
-    text: &mut Vec<u8>,
-    program: &Program,
-    func: FuncId,
-    node: NodeId,
-) -> Result<(), AllocError>
-    ensures { OnOk result (text.new.items ≡ text.old.items ++ spec.place_text program.now func node) }
-{
-    put_function(text, program, func)?;
-    put_text(text, ":")?;
-    put_number(alloc, text, u64::from(node.0))
 }
 
 fn put_fault(

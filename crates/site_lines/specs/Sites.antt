@@ -1,29 +1,22 @@
 -- Which sites' objects the pointers in the objects of each site may point to, and which locations calls of each function may change, as lines.
-use Rattle.std.specs.Prelude.{◌≡◌, ℕ, ◌+◌, List, [], ◌∷◌, ◌++◌, map, take, Option, Some, None, codes, slice_get}
+use Rattle.std.specs.Prelude.{◌≡◌, ℕ, ◌+◌, List, [], ◌∷◌, ◌++◌, map, take, codes, slice_get}
 use Rattle.std.specs.List.{flat_map}
-use Rattle.std.specs.Fmt.{decimal}
-use Rattle.ir_tree.specs.Texts.{global_text}
 use Rattle.flat_ir.specs.declared.names.FuncId.{FuncId}
 use Rattle.flat_ir.specs.declared.names.Site.{Site}
 use Rattle.flat_ir.specs.declared.names.Site.TheVariants as site
 use Rattle.flat_ir.specs.declared.names.Location.{Location}
 use Rattle.flat_ir.specs.declared.names.Location.TheVariants as location
-use Rattle.flat_ir.specs.declared.program.GlobalVar.{GlobalVar}
 use Rattle.flat_ir.specs.declared.program.ProgramData.{ProgramData}
 use Rattle.points_to.specs.declared.holders.Holder.TheVariants.{Bytes}
 use Rattle.points_to.specs.Points.{PointsTo, IsIn, Lists}
 use Rattle.mod_ref.specs.Mods.{AreMods}
 use Rattle.mod_ref.specs.Sites.{sites}
-use Rattle.name_texts.specs.Lines.{function_text}
-
-abbrev pub named : Option GlobalVar → List ℕ
-named None = []
-named (Some g) = global_text g.name
+use Rattle.name_texts.specs.Lines.{function_text, place_text, global_named}
 
 -- a global by its name, a node by its function's name and its number
 abbrev pub site_text : ProgramData → Site → List ℕ
-site_text p (site.Global g) = named (slice_get p.globals g)
-site_text p (site.Node f n) = function_text p f ++ (codes ":" ++ decimal n.0)
+site_text p (site.Global g) = global_named (slice_get p.globals g)
+site_text p (site.Node f n) = place_text p f n
 
 abbrev pub location_text : ProgramData → Location → List ℕ
 location_text p (location.Cells s) = codes "cells(" ++ (site_text p s ++ codes ")")

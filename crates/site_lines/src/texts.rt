@@ -4,13 +4,14 @@ ghost use Rattle.std.specs.List.{flat_map};
 ghost use Rattle.points_to.specs.Sets.{of_cells};
 ghost use Rattle.site_lines.specs.Sites as spec;
 
-use crate::pieces::{put_site, put_spaced_location, put_spaced_site, put_str};
+use crate::pieces::{put_site, put_spaced_location, put_spaced_site};
 use flat_ir::{FuncId, Location, Program, Site};
 use mod_ref::{mods, sites};
 use name_texts::put_function;
 use plain_list::Sequence;
 use points_to::{PointsTo, points_to};
 use std::alloc::{AllocError, Global};
+use value_texts::put_text;
 
 fn put_sites(
     alloc: Global,
@@ -50,11 +51,11 @@ fn put_site_line(
 ) -> Result<(), AllocError>
     ensures { OnOk result (text.new.items ≡ text.old.items ++ spec.site_line program.now (of_cells sets.now) site) }
 {
-    put_str(text, "site ")?;
+    put_text(text, "site ")?;
     put_site(alloc, text, program, site)?;
-    put_str(text, " holds")?;
+    put_text(text, " holds")?;
     put_sites(alloc, text, program, sets.of_cells(site))?;
-    put_str(text, "\n")
+    put_text(text, "\n")
 }
 
 fn put_site_lines(
@@ -82,10 +83,10 @@ fn put_mod_line(
 ) -> Result<(), AllocError>
     ensures { OnOk result (text.new.items ≡ text.old.items ++ spec.mod_line program.now func locations.now) }
 {
-    put_str(text, "mod ")?;
+    put_text(text, "mod ")?;
     put_function(text, program, FuncId(func))?;
     put_locations(alloc, text, program, locations)?;
-    put_str(text, "\n")
+    put_text(text, "\n")
 }
 
 // The lists of the functions that the text defines.
