@@ -3,6 +3,7 @@ use Rattle.std.proofs.Common.{◌≡◌, ℕ, zero, suc, Bool, true, false, ◌=
 use Rattle.std.specs.Prelude.{cond, slice_get, nat_lt}
 use Rattle.std.specs.List.{AllByRecursion as Each}
 use Rattle.std.proofs.lemmas.Bool.{eqb-true, eq-eqb}
+use Rattle.std.proofs.lemmas.List.{nil_from_length}
 use Rattle.terms.specs.Tree.{Tree}
 use Rattle.terms.specs.Value.{value_of, is_met_by, are_met_by, is_yes}
 use Rattle.terms.specs.declared.term.Unary.TheVariants.{Not}
@@ -145,10 +146,6 @@ pub record Alike (input : List ℕ) (s : State) (m : machine.State) : Type 0 whe
   pub path : outside [] m.events ≡ map (event_under input []) s.path
   pub shots : s.snapshots ≡ []
 
-none-left : {A : Type 0} (xs : List A) → length xs ≡ 0 → xs ≡ []
-none-left [] h = refl
-none-left (x ∷ xs) h = absurd (omega (arith, h))
-
 pub alike : (input : List ℕ) (s : State) (m : machine.State) → Agrees [] input none_gave s m → Alike input s m
 alike input s m h =
     let none = results-none m.events in
@@ -157,7 +154,7 @@ alike input s m h =
       callers = subst (λ r. FramesAgree input r s.callers m.callers) none h.callers;
       log = subst (λ r. StandsFor s.memory.log m.history input r none_gave) none h.log;
       path = subst (λ r. outside [] m.events ≡ map (event_under input r) s.path) none h.path;
-      shots = none-left s.snapshots (h.each_call ∙ ap length none);
+      shots = nil_from_length s.snapshots (h.each_call ∙ ap length none);
     }
 
 pub agreed : (input : List ℕ) (s : State) (m : machine.State) → Alike input s m → Agrees [] input none_gave s m

@@ -16,15 +16,16 @@ use Rattle.sym_bytes.specs.Building.{wide}
 use Rattle.sym_bytes.specs.Under.{bits_under}
 use Rattle.leaves.specs.Fitting.{IsTermOf}
 use Rattle.sym_states.specs.Terms.{is_within, is_start}
+use Rattle.log_laws.proofs.Tested.{yes_truth}
 use Rattle.sym_states.proofs.Widths.{calculated-fits, below-fits, negation-fits, wide-fits}
-use Rattle.agreement.proofs.Values.{yes-truth, met-negation, met-and, met-equal, value-compared}
+use Rattle.agreement.proofs.Values.{met-negation, met-and, met-equal, value-compared}
 
 -- a number of 64 bits is below 2 ^ 64
 wide-small : (n : ℕ) (t : Tree) (i : List ℕ) → IsTermOf n 64 t → bits_under i t < 2 ^ 64
 wide-small n t i h = subst (λ w. (value_of t i).bits < 2 ^ w) (width-value_of t i h.term.tree ∙ h.has_width) (value_is t i h.term.tree).fits
 
 met-below : (n : ℕ) (a b : Tree) (i : List ℕ) → IsTermOf n 64 a → IsTermOf n 64 b → is_met_by i (folded_two Ult a b) ≡ nat_lt (bits_under i a) (bits_under i b)
-met-below n a b i h k = ap is_yes (value-compared n 64 pred.Ult a b i h k) ∙ yes-truth (nat_lt (bits_under i a) (bits_under i b))
+met-below n a b i h k = ap is_yes (value-compared n 64 pred.Ult a b i h k) ∙ yes_truth (nat_lt (bits_under i a) (bits_under i b))
 
 value-left : (n : ℕ) (a b : Tree) (i : List ℕ) → IsTermOf n 64 a → IsTermOf n 64 b → bits_under i (folded_two (Bin op.Sub) a b) ≡ (bits_under i a + (2 ^ 64 - bits_under i b) % 2 ^ 64) % 2 ^ 64
 value-left n a b i h k =

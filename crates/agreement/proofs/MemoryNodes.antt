@@ -2,7 +2,7 @@
 use Rattle.std.proofs.Common.{◌≡◌, ℕ, zero, suc, Bool, true, false, not, ◌&&◌, ◌==◌, ◌+◌, ◌-◌, ◌%◌, ◌^◌, ◌<◌, ◌≤◌, List, [], ◌∷◌, ◌++◌, map, length, Option, Some, None, refl, sym, ◌∙◌, ap, subst, arith, lit≤, ◌⊎◌, inl, inr}
 use Rattle.std.specs.Prelude.{cond, slice_get, nat_lt}
 use Rattle.std.specs.List.{AllByRecursion as Each}
-use Rattle.std.proofs.lemmas.Bool.{cases_Bool, leb-true, leb-false}
+use Rattle.std.proofs.lemmas.Bool.{cases_Bool, leb-true, leb-false, not-false}
 use Rattle.std.proofs.lemmas.Option.{slice_get_past}
 use Rattle.std.proofs.lemmas.List.Elements.{recursion_from_All}
 use Rattle.std.proofs.Math.Nat.{mod-eq_of_lt}
@@ -145,10 +145,6 @@ width-along e k m s a width h given fits has_type =
     width-is e.input (length e.input) width (value_in s a) (value_in-firm s a h.state.no_calls) (value_in-fits (length e.input) s a h.state.fits fits).fits
     (subst (HasType (type.Int width)) (operand-along e k m s a h given) has_type)
 
-not-no : (b : Bool) → not b ≡ false → b ≡ true
-not-no true is = refl
-not-no false is = cc
-
 mallocs-tested : (e : Scene) (k : ℕ) (m : machine.State) (s : State) (x : Node) (result : Option RegId) (size : Tree) (next : NodeId) (tested : Tested) → IsHere e k m s → StandsThere e m x → slice_get (successors_of x) 0 ≡ Some next
     → IsTermOf (length e.input) 64 size
     → Attempts e m x (cond (nat_lt 65536 (bits_under e.input size)) (steps.gives_if result (concrete.Ptr registers.null) next (begun m)) (steps.gives_if result (steps.new_here (begun m)) next (steps.allocated (bits_under e.input size) (begun m))))
@@ -159,7 +155,7 @@ mallocs-tested e k m s x result size next (Good u) h code leads fits does test =
     (does ∙ ap (λ b. cond b (steps.gives_if result (concrete.Ptr registers.null) next (begun m)) (steps.gives_if result (steps.new_here (begun m)) next (steps.allocated (bits_under e.input size) (begun m)))) small)
 mallocs-tested e k m s x result size next (Bad u) h code leads fits does test =
     let unmet = unmet-side (length e.input) (is_small size) e.input (is_small-fits (length e.input) size fits) test.met in
-    let large = not-no (nat_lt 65536 (bits_under e.input size)) (sym (met-small (length e.input) size e.input fits) ∙ unmet) in
+    let large = not-false (nat_lt 65536 (bits_under e.input size)) (sym (met-small (length e.input) size e.input fits) ∙ unmet) in
     done-along e k m u u x result (Some null) (concrete.Ptr registers.null) next m.history m.events test.here code leads (sets-to e.input result null (concrete.Ptr registers.null) refl) (alike e.input u m test.here.agrees)
     (does ∙ ap (λ b. cond b (steps.gives_if result (concrete.Ptr registers.null) next (begun m)) (steps.gives_if result (steps.new_here (begun m)) next (steps.allocated (bits_under e.input size) (begun m)))) large)
 mallocs-tested e k m s x result size next (Answered step) h code leads fits does test = test

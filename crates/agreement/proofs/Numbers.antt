@@ -60,6 +60,7 @@ use Rattle.sym_states.specs.States as states
 use Rattle.sym_states.specs.Terms.{value_in, number_in, address_in, calculated, compared_values, cast_to, chosen, moved_by, moved_by_all, is_nonzero, has_quotient, is_equal, case_sides, and_none, none_of, switch_sides, set_all}
 use Rattle.sym_states.proofs.Widths as widths
 use Rattle.sym_states.proofs.Widths.{negation-fits}
+use Rattle.log_laws.proofs.Tested.{yes_truth}
 use Rattle.state_laws.specs.Kept.{OperandFits, OperandsFit, PartsFit, CasesFit}
 use Rattle.state_laws.specs.Skipless.{IsFirm}
 use Rattle.state_laws.proofs.FirmValues.{value_in-firm}
@@ -73,7 +74,7 @@ use Rattle.agreement.specs.Agreement.{RegsAgree, FrameAgrees, StandsAt}
 use Rattle.agreement.specs.Premises.{same_number, NodeHasDistinctCases, HasDistinctCases, none_gave}
 use Rattle.agreement.proofs.Along.{Scene, IsHere, IsPast, AnswerGoesAlong, FlowGoesAlong, TestGoesAlong, HasFault, IsGiven, MeetsAt, alike, agreed, must-along, test-along, choose-along, goes-along, unmet-side, firm-first, flow-weaker, then-flow-along, then-step-along, frame-done, done-along, regs-set, value-counted, operand-along}
 use Rattle.agreement.proofs.Nodes.{begun, Attempts, StandsThere, IsAt, tests-fault, unless-none, value-along, address-along, number-along, term-along, path-shown}
-use Rattle.agreement.proofs.Values.{both-true, value-calculated, value-compared_values, value-cast, value-chosen, same-widths, apart, met-nonzero, met-quotient, met-and, met-negation, yes-truth, truth-is, bits-behind, bits-moved_by_index}
+use Rattle.agreement.proofs.Values.{both-true, value-calculated, value-compared_values, value-cast, value-chosen, same-widths, apart, met-nonzero, met-quotient, met-and, met-negation, truth-is, bits-behind, bits-moved_by_index}
 
 -- ---- divisions
 
@@ -414,7 +415,7 @@ later-cases v c cs h = record { widths = h.widths.1; numbers = h.numbers.1; dist
 met-case : (n : ℕ) (v : Tree) (c : SwitchCase) (i : List ℕ) → IsTerm n v → (c.number.width ≡ width_of v) × IsNumber c.number → is_met_by i (is_equal v (constant c.number)) ≡ ((value_of v i).bits == c.number.bits)
 met-case n v c i h fits =
     ap (λ b. is_met_by i (cond b (equal v (constant c.number)) (number 1 0))) (eq-eqb (width_of v) c.number.width (sym fits.0))
-    ∙ ap is_yes (value-folded_two Eq v (constant c.number) i (h.tree, fits.1, sym fits.0)) ∙ yes-truth ((value_of v i).bits == c.number.bits)
+    ∙ ap is_yes (value-folded_two Eq v (constant c.number) i (h.tree, fits.1, sym fits.0)) ∙ yes_truth ((value_of v i).bits == c.number.bits)
 
 -- an input meets none of the terms
 abbrev pub none_met : List ℕ → List Tree → Bool

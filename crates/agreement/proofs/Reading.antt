@@ -49,7 +49,7 @@ use Rattle.sym_states.specs.Terms.{is_within, byte_resolved, joined_as}
 use Rattle.sym_states.proofs.Widths.{behind-fits}
 use Rattle.state_laws.specs.Kept.{IsShortType, JoinFits}
 use Rattle.state_laws.specs.Skipless.{AreFirmBytes, IsFirmLog}
-use Rattle.state_laws.proofs.Accesses.{life-at, read_byte-at}
+use Rattle.state_laws.proofs.Accesses.{life-at, read_byte-at, bytes-append}
 use Rattle.state_laws.proofs.FirmLogs.{need-none, ReadIsFirm, read-firm}
 use Rattle.state_laws.proofs.FirmValues.{JoinIsFirm, joined-firm}
 use Rattle.state_laws.proofs.States.{parts_of}
@@ -204,10 +204,6 @@ read_on-along e k m s x offset count j (suc tests) h readable below =
           (read_on-along e k m u x offset count j tests past.here readable below)))
     ]
     refl (read_byte-at (length e.input) x at s (behind-fits (length e.input) offset j readable.wide (omega (arith, below, readable.few))) h.state.fits) (read-firm s.memory.globals s.condition x at s.memory.log h.state.no_calls.log)
-
-bytes-append : (n : ℕ) (bs cs : List SymByte) → BytesFit n bs → BytesFit n cs → BytesFit n (bs ++ cs)
-bytes-append n [] cs h k = k
-bytes-append n (b ∷ bs) cs h k = (h.0, bytes-append n bs cs h.1 k)
 
 firm-append : (bs cs : List SymByte) → AreFirmBytes bs → AreFirmBytes cs → AreFirmBytes (bs ++ cs)
 firm-append [] cs h k = k

@@ -30,14 +30,14 @@ use Rattle.terms.specs.Folding.{folded_one, folded_two, folded_choice}
 use Rattle.terms.proofs.Folds.{value-folded_one, value-folded_two, value-folded_choice}
 use Rattle.terms.proofs.Numbers.{value_is, width-value_of}
 use Rattle.term_store.specs.Condition.{negation}
-use Rattle.sym_bytes.specs.declared.names.Base.{Base}
-use Rattle.sym_bytes.specs.declared.names.Base.TheVariants.{Null, Object}
 use Rattle.sym_bytes.specs.Building.{number, wide, equal, behind, same_base}
 use Rattle.sym_bytes.specs.Pointers.{Pointer}
-use Rattle.sym_bytes.specs.Under.{bits_under, base_under, address_under, value_under}
+use Rattle.sym_bytes.specs.Under.{bits_under, address_under, value_under}
 use Rattle.sym_bytes.specs.Value.{SymValue, Int, Ptr, Pending}
 use Rattle.leaves.specs.Fitting.{IsTerm, IsTermOf, ValueFits}
 use Rattle.sym_states.specs.Terms.{term_in, pointer_in, calculated, compared, compared_terms, alike_pointers, compared_pointers, compared_values, cast_to, chosen, low_byte, truth_of, size_in, in_64_bits, moved_by_index, is_nonzero, is_least, is_ones, has_quotient, is_small}
+use Rattle.byte_laws.proofs.Pointers.{base_same}
+use Rattle.log_laws.proofs.Tested.{yes_truth}
 use Rattle.sym_states.proofs.Widths.{calculated-fits, equal-fits, below-fits, wide-fits}
 use Rattle.state_laws.specs.Skipless.{IsFirm}
 use Rattle.state_laws.proofs.Terms.{exact, tree-width, number-fits, slt-fits, alike_pointers-fits, is_least-fits, is_ones-fits, in_64_bits-fits, two-fits}
@@ -56,10 +56,6 @@ address-under i (Ptr p) h = refl
 address-under i (Pending c t) h = absurd h
 
 -- ---- terms of one bit
-
-pub yes-truth : (b : Bool) → is_yes (truth b) ≡ b
-yes-truth true = refl
-yes-truth false = refl
 
 pub bit-small : (n : ℕ) (t : Tree) (i : List ℕ) → IsTermOf n 1 t → (value_of t i).bits < 2
 bit-small n t i h = subst (λ k. (value_of t i).bits < 2 ^ k) (width-value_of t i h.term.tree ∙ h.has_width) (value_is t i h.term.tree).fits
@@ -127,14 +123,8 @@ pub value-compared_terms : (n : ℕ) (pr : Pred) (a b : Tree) (i : List ℕ) →
 value-compared_terms n pr a b i h k e =
     value-if i (width_of a == width_of b) (compared pr a b) (number 1 0) (eq-eqb _ _ e) ∙ value-compared n (width_of b) pr a b i (exact n (width_of b) a h e) (exact n (width_of b) b k refl)
 
-same-bases : (a b : Base) → same_base a b ≡ registers.same_base (base_under a) (base_under b)
-same-bases Null Null = refl
-same-bases Null (Object y) = refl
-same-bases (Object x) Null = refl
-same-bases (Object x) (Object y) = refl
-
 value-alike : (n : ℕ) (a b : Pointer) (i : List ℕ) → IsTermOf n 64 a.offset → IsTermOf n 64 b.offset → value_of (alike_pointers a b) i ≡ truth (registers.same_address (address_under i a) (address_under i b))
-value-alike n a b i h k = by-test (same_base a.base b.base) ∙ ap (λ t. truth (t && (bits_under i a.offset == bits_under i b.offset))) (same-bases a.base b.base)
+value-alike n a b i h k = by-test (same_base a.base b.base) ∙ ap (λ t. truth (t && (bits_under i a.offset == bits_under i b.offset))) (base_same a.base b.base)
   where
     by-test : (test : Bool) → value_of (cond test (equal a.offset b.offset) (number 1 0)) i ≡ truth (test && (bits_under i a.offset == bits_under i b.offset))
     by-test true = value-folded_two Eq a.offset b.offset i (h.term.tree, k.term.tree, h.has_width ∙ sym k.has_width)
@@ -201,7 +191,7 @@ value-equal : (n w bits : ℕ) (t : Tree) (i : List ℕ) → IsTermOf n w t → 
 value-equal n w bits t i h f = value-folded_two Eq t (number w bits) i (h.term.tree, (constant-fits n w bits t h f).term.tree, h.has_width)
 
 pub met-equal : (n w bits : ℕ) (t : Tree) (i : List ℕ) → IsTermOf n w t → bits < 2 ^ w → is_met_by i (equal t (number w bits)) ≡ ((value_of t i).bits == bits)
-met-equal n w bits t i h f = ap is_yes (value-equal n w bits t i h f) ∙ yes-truth ((value_of t i).bits == bits)
+met-equal n w bits t i h f = ap is_yes (value-equal n w bits t i h f) ∙ yes_truth ((value_of t i).bits == bits)
 
 pub met-nonzero : (n : ℕ) (b : Tree) (i : List ℕ) → IsTerm n b → is_met_by i (is_nonzero b) ≡ not ((value_of b i).bits == 0)
 met-nonzero n b i h =
@@ -233,7 +223,7 @@ pub met-small : (n : ℕ) (size : Tree) (i : List ℕ) → IsTermOf n 64 size �
 met-small n size i h =
     let most : IsTermOf n 64 (wide 65536) = wide-fits n 65536 (lit≤ tt) in
     met-negation n (folded_two Ult (wide 65536) size) i (below-fits n 64 (wide 65536) size most h)
-    ∙ ap not (ap is_yes (value-folded_two Ult (wide 65536) size i (most.term.tree, h.term.tree, sym h.has_width)) ∙ yes-truth (nat_lt 65536 (value_of size i).bits))
+    ∙ ap not (ap is_yes (value-folded_two Ult (wide 65536) size i (most.term.tree, h.term.tree, sym h.has_width)) ∙ yes_truth (nat_lt 65536 (value_of size i).bits))
 
 -- a size that has 64 bits stands as it is
 pub size-is : (t : Tree) → width_of t ≡ 64 → size_in t ≡ t

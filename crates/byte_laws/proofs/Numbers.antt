@@ -107,7 +107,7 @@ tree-folded_join t ts h most =
     cond_has IsTree (list_all (λ u. is_some (constant_of u)) (t ∷ ts)) (constant (value_of (spine (t ∷ ts)) [])) (fold_whole (inside_byte t) (t ∷ ts))
     (value_is (spine (t ∷ ts)) [] tree) (tree_inside t ts h.0.0 tree)
 
-yes_truth : (b : Bool) → is_yes (truth b) ≡ b
+pub yes_truth : (b : Bool) → is_yes (truth b) ≡ b
 yes_truth true = refl
 yes_truth false = refl
 

@@ -23,7 +23,7 @@ use Rattle.sym_bytes.specs.Pointers.{Pointer}
 use Rattle.sym_bytes.specs.Joining.{put_before, offsets_of, all_equal, alike}
 use Rattle.sym_bytes.specs.Under.{Results, bits_under, base_under}
 use Rattle.byte_laws.specs.Types.{AreBytes}
-use Rattle.byte_laws.proofs.Numbers.{under, NonePending, put_some, put_none}
+use Rattle.byte_laws.proofs.Numbers.{under, NonePending, put_some, put_none, yes_truth}
 
 -- each is an offset
 abbrev pub AreWide : List Tree → Type 0
@@ -32,7 +32,7 @@ AreWide (t ∷ ts) = IsWide t × AreWide ts
 
 -- ---- which bytes are of one pointer
 
-base_same : (a b : Base) → same_base a b ≡ registers.same_base (base_under a) (base_under b)
+pub base_same : (a b : Base) → same_base a b ≡ registers.same_base (base_under a) (base_under b)
 base_same base.Null base.Null = refl
 base_same base.Null (base.Object y) = refl
 base_same (base.Object x) base.Null = refl
@@ -139,10 +139,6 @@ all_equal_value input first so_far (t ∷ ts) b f h tree width is =
     (width-folded_two (Bin op.And) so_far (equal t first) and_tree ∙ width)
     and_value
     ∙ ap truth (and_assoc b (bits_under input first == bits_under input t) (list_all (λ u. bits_under input first == bits_under input u) ts))
-
-yes_truth : (b : Bool) → is_yes (truth b) ≡ b
-yes_truth true = refl
-yes_truth false = refl
 
 -- the test is 1 where all offsets equal the first
 pub alike_value : (input : List ℕ) (t : Tree) (ts : List Tree) → AreWide (t ∷ ts)
