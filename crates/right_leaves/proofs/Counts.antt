@@ -23,9 +23,6 @@ use Rattle.agreement.proofs.Values.{both-true, met-negation}
 abbrev pub one_if : Bool → ℕ
 one_if b = cond b 1 0
 
-pub plus-none : (n : ℕ) → n + 0 ≡ n
-plus-none n = omega arith
-
 -- how many of the terms an input meets, if it meets the condition
 abbrev pub met_sides : List ℕ → Bool → List Tree → ℕ
 met_sides i met [] = 0

@@ -3,6 +3,7 @@
 use Rattle.std.proofs.Common.{◌≡◌, ℕ, Bool, true, false, ◌+◌, List, [], ◌∷◌, ◌++◌, refl, sym, ◌∙◌, ap, subst, arith, zero-add, add_assoc, inl, inr}
 use Rattle.std.specs.List.{AllByRecursion as Each}
 use Rattle.std.proofs.lemmas.Bool.{cases_Bool, false≢true}
+use Rattle.std.proofs.Math.Nat.{add-zero}
 use Rattle.terms.specs.Tree.{Tree}
 use Rattle.terms.specs.Value.{are_met_by}
 use Rattle.flat_ir.specs.declared.program.ProgramData.{ProgramData}
@@ -21,7 +22,7 @@ use Rattle.agreement.proofs.Whole.{attempts-along}
 use Rattle.agreement.proofs.Numbers.{code-distinct}
 use Rattle.agreement.proofs.Plain.{ChildIsPlain, StepIsPlain, attempt-plain}
 use Rattle.right_leaves.specs.Right.{IsLeast, KeepsLeast, IsPlainSetting}
-use Rattle.right_leaves.proofs.Counts.{one_if, plus-none}
+use Rattle.right_leaves.proofs.Counts.{one_if}
 use Rattle.right_leaves.proofs.Programs.{same-context}
 use Rattle.right_leaves.proofs.Sides.{Keeps, met_children, ChildrenLeast, StepKeeps}
 use Rattle.right_leaves.proofs.Walks.{attempt-keeps}
@@ -103,7 +104,7 @@ all-count i [] = refl
 all-count i (ls ∷ lists) = leaves-append i ls (all_of lists) ∙ ap (λ m. met_leaves i ls + m) (all-count i lists)
 
 more-leaf : (i : List ℕ) (l : Leaf) (m k : ℕ) → m ≡ k → met_leaves i (l ∷ []) + m ≡ one_if (are_met_by i (told_of l).condition) + k
-more-leaf i l m k e = λ j. plus-none (one_if (are_met_by i (told_of l).condition)) j + e j
+more-leaf i l m k e = λ j. add-zero (one_if (are_met_by i (told_of l).condition)) j + e j
 
 abbrev pub LeavesHold : Setting → List ℕ → List Leaf → Type 0
 LeavesHold e i ls = Each (LeafIsRight e i) ls

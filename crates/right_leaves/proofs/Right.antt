@@ -4,7 +4,7 @@ use Rattle.std.specs.Prelude.{count_by}
 use Rattle.std.specs.List.{AllByRecursion as Each}
 use Rattle.std.proofs.lemmas.List.Elements.{All-from_recursion}
 use Rattle.std.proofs.lemmas.List.Sums.{sum_by-cons}
-use Rattle.std.proofs.Math.Nat.{eq-zero-or-pos}
+use Rattle.std.proofs.Math.Nat.{add-zero, eq-zero-or-pos}
 use Rattle.decider.specs.Inputs.{IsAtMost}
 use Rattle.flat_ir.specs.Sound.{IsInput, IsSound}
 use Rattle.terms.specs.Value.{are_met_by}
@@ -15,7 +15,7 @@ use Rattle.state_sides.specs.Views.{verdict_by}
 use Rattle.state_laws.proofs.Roots.{zeros-length}
 use Rattle.agreement.proofs.Starts.{first-plain, first-stands}
 use Rattle.right_leaves.specs.Right.{IsLeast, KeepsLeast, IsPlainSetting, AreRightVerdicts, LeavesAreRight, IsPlainProgram, DecidedLeavesAreRight}
-use Rattle.right_leaves.proofs.Counts.{one_if, plus-none}
+use Rattle.right_leaves.proofs.Counts.{one_if}
 use Rattle.right_leaves.proofs.Programs.{plain-fits}
 use Rattle.right_leaves.proofs.Verdicts.{decided-size, decided-right}
 use Rattle.right_leaves.proofs.Explored.{LeavesHold, ListsHold, met_leaves, evaluates-hold}
@@ -39,7 +39,7 @@ zeros-least zero input h = tt
 zeros-least (suc n) [] h = absurd (omega (arith, h))
 zeros-least (suc n) (b ∷ input) h = by-byte b (IsAtMost (zeros n) input) (eq-zero-or-pos b) (zeros-least n input (omega (arith, h)))
 
-first-least : (n : ℕ) → IsLeast n [] (zeros n)
+pub first-least : (n : ℕ) → IsLeast n [] (zeros n)
 first-least n = record { fits = zeros-input n; met = refl; least = λ input is met. zeros-least n input is.0 }
 
 -- ---- the law
@@ -63,7 +63,7 @@ pub leaves-right : LeavesAreRight
 leaves-right e leaves tasks plain h =
     let holds = explored e leaves tasks plain h in
     record {
-      split = λ i is. counted i leaves ∙ sym (plus-none (met_leaves i leaves)) ∙ (holds i is).count;
+      split = λ i is. counted i leaves ∙ sym (add-zero (met_leaves i leaves)) ∙ (holds i is).count;
       sound = All-from_recursion (IsSound e.program [] e.inputs) (map claim_of leaves) (sound-all e leaves (λ i is. (holds i is).leaves.0));
       least = All-from_recursion (KeepsLeast e.inputs) leaves (least-all e (zeros e.inputs) leaves (holds (zeros e.inputs) (zeros-input e.inputs)).leaves.0);
     }

@@ -1,6 +1,7 @@
 -- What tests and choices of ways give splits the inputs that meet a state's condition, and keeps the least ones.
 use Rattle.std.proofs.Common.{◌≡◌, ℕ, Bool, true, false, ◌&&◌, ◌==◌, ◌+◌, List, [], ◌∷◌, ◌++◌, length, Some, None, refl, sym, ◌∙◌, ap, subst, zero-add, add_assoc}
 use Rattle.std.specs.Prelude.{cond, nat_lt}
+use Rattle.std.proofs.Math.Nat.{add-zero}
 use Rattle.terms.specs.Tree.{Tree}
 use Rattle.terms.specs.Value.{is_met_by, are_met_by}
 use Rattle.terms.proofs.Folds.{both}
@@ -20,7 +21,7 @@ use Rattle.state_laws.specs.Kept.{StateFitsAt}
 use Rattle.state_laws.proofs.States.{parts_of}
 use Rattle.agreement.proofs.Values.{both-true}
 use Rattle.right_leaves.specs.Right.{IsLeast, KeepsLeast, AreRightVerdicts}
-use Rattle.right_leaves.proofs.Counts.{one_if, plus-none, met_sides, AreSides, both-sides}
+use Rattle.right_leaves.proofs.Counts.{one_if, met_sides, AreSides, both-sides}
 
 -- ---- what is kept along an attempt
 
@@ -87,8 +88,8 @@ least-append n (Lives side condition kept ∷ os) ps h k = (h.0, least-append n 
 least-append n (Spends condition ∷ os) ps h k = least-append n os ps h k
 
 verdict-count : (i : List ℕ) (v : Verdict) (side : ℕ) (condition : List Tree) → (v ≡ Unsat → are_met_by i condition ≡ false) → met_count i (by_verdict v side condition) ≡ one_if (are_met_by i condition)
-verdict-count i (Sat input) side condition right = plus-none _
-verdict-count i Spent side condition right = plus-none _
+verdict-count i (Sat input) side condition right = add-zero _
+verdict-count i Spent side condition right = add-zero _
 verdict-count i Unsat side condition right = ap one_if (sym (right refl))
 
 verdict-least : (n : ℕ) (v : Verdict) (side : ℕ) (condition : List Tree) → ((input : List ℕ) → v ≡ Sat input → IsLeast n condition input) → OffspringsLeast n (by_verdict v side condition)
@@ -140,7 +141,7 @@ forks-keeps n i k take s os steady keeps counts least =
 
 alone-keeps : (n : ℕ) (i : List ℕ) (k : ℕ) (os : List Offspring) (s : State) → met_count i os ≡ k → OffspringsLeast n os → OfferKeeps n i k (alone os s)
 alone-keeps n i k [] s counts least = (counts, tt)
-alone-keeps n i k (Lives side condition kept ∷ []) s counts least = (sym (plus-none _) ∙ counts, least.0)
+alone-keeps n i k (Lives side condition kept ∷ []) s counts least = (sym (add-zero _) ∙ counts, least.0)
 alone-keeps n i k (Lives side condition kept ∷ o ∷ os) s counts least = (counts, least)
 alone-keeps n i k (Spends condition ∷ os) s counts least = (counts, least)
 
@@ -148,12 +149,12 @@ module _ (c : Context) (n : ℕ) (i : List ℕ) (right : AreRightVerdicts c.verd
   -- an input meets a side's offspring where it meets the condition and the conjunct
   offspring-count : (a : Added) (s : State) (t : Tree) (side : ℕ) → StateFitsAt n s → IsTermOf n 1 t → a ≡ answer s.condition t
       → met_count i (offspring_of c a s t side) ≡ one_if (are_met_by i s.condition && is_met_by i t)
-  offspring-count Held s t side h truth is = plus-none _ ∙ ap one_if (meets_also s.condition t Held i (truth.term.tree, truth.has_width) is)
+  offspring-count Held s t side h truth is = add-zero _ ∙ ap one_if (meets_also s.condition t Held i (truth.term.tree, truth.has_width) is)
   offspring-count Appended s t side h truth is =
       let also = meets_also s.condition t Appended i (truth.term.tree, truth.has_width) is in
       let fit = terms-append n 1 s.condition (t ∷ []) (parts_of n s h).condition (truth, tt) in
       count-if i (is_met_by s.kept t) (Lives side (s.condition ++ t ∷ []) s.kept ∷ []) (by_verdict (c.verdict (s.condition ++ t ∷ []) (length s.kept)) side (s.condition ++ t ∷ [])) (one_if (are_met_by i s.condition && is_met_by i t))
-      (plus-none _ ∙ ap one_if also)
+      (add-zero _ ∙ ap one_if also)
       (verdict-count i (c.verdict (s.condition ++ t ∷ []) (length s.kept)) side (s.condition ++ t ∷ [])
       (λ e. right.unsat (s.condition ++ t ∷ []) i fit (ap (c.verdict (s.condition ++ t ∷ [])) (sym h.size) ∙ e)) ∙ ap one_if also)
   offspring-count Contradicted s t side h truth is = ap one_if (sym (meets_also s.condition t Contradicted i (truth.term.tree, truth.has_width) is))

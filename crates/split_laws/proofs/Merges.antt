@@ -3,6 +3,8 @@ use Rattle.std.proofs.Common.{◌≡◌, ℕ, Bool, true, false, ◌+◌, ◌≤
 use Rattle.std.specs.Prelude.{cond, nat_lt, IfSome}
 use Rattle.std.specs.List.{AllByRecursion as Each, flat_map}
 use Rattle.std.proofs.lemmas.Bool.{eqb-true, false≢true}
+use Rattle.std.proofs.Math.Bool.{and-true, and_assoc}
+use Rattle.std.proofs.Math.Nat.{add-zero}
 use Rattle.terms.specs.Tree.{Tree}
 use Rattle.terms.specs.Value.{is_met_by, are_met_by}
 use Rattle.terms.proofs.Folds.{both}
@@ -32,13 +34,9 @@ use Rattle.split_laws.specs.Splits.{times_met, met_among, met_leaves, ChildKeeps
 
 -- ---- adding conjuncts
 
-and-assoc : (a b c : Bool) → a && (b && c) ≡ ((a && b) && c)
-and-assoc true b c = refl
-and-assoc false b c = refl
-
 met-append : (i : List ℕ) (known more : List Tree) → are_met_by i (known ++ more) ≡ (are_met_by i known && are_met_by i more)
 met-append i [] more = refl
-met-append i (t ∷ known) more = ap (λ b. is_met_by i t && b) (met-append i known more) ∙ and-assoc (is_met_by i t) (are_met_by i known) (are_met_by i more)
+met-append i (t ∷ known) more = ap (λ b. is_met_by i t && b) (met-append i known more) ∙ sym (and_assoc (is_met_by i t) (are_met_by i known) (are_met_by i more))
 
 -- an input meets what is made where it meets both; none does where they contradict each other
 abbrev AddsAll : List Tree → List Tree → Option (List Tree) → Type 0
@@ -46,12 +44,8 @@ AddsAll known ts None = (i : List ℕ) → (are_met_by i known && are_met_by i t
 AddsAll known ts (Some made) = (i : List ℕ) → are_met_by i made ≡ (are_met_by i known && are_met_by i ts)
 
 adds-more : (known next ts : List Tree) (t : Tree) (o : Option (List Tree)) → ((i : List ℕ) → are_met_by i next ≡ (are_met_by i known && is_met_by i t)) → AddsAll next ts o → AddsAll known (t ∷ ts) o
-adds-more known next ts t None also h = λ i. and-assoc (are_met_by i known) (is_met_by i t) (are_met_by i ts) ∙ ap (λ b. b && are_met_by i ts) (sym (also i)) ∙ h i
-adds-more known next ts t (Some made) also h = λ i. h i ∙ ap (λ b. b && are_met_by i ts) (also i) ∙ sym (and-assoc (are_met_by i known) (is_met_by i t) (are_met_by i ts))
-
-all-true : (b : Bool) → b ≡ (b && true)
-all-true true = refl
-all-true false = refl
+adds-more known next ts t None also h = λ i. sym (and_assoc (are_met_by i known) (is_met_by i t) (are_met_by i ts)) ∙ ap (λ b. b && are_met_by i ts) (sym (also i)) ∙ h i
+adds-more known next ts t (Some made) also h = λ i. h i ∙ ap (λ b. b && are_met_by i ts) (also i) ∙ and_assoc (are_met_by i known) (is_met_by i t) (are_met_by i ts)
 
 none-if : (a b c : Bool) → (a && b) ≡ false → (a && (b && c)) ≡ false
 none-if true false c h = refl
@@ -59,7 +53,7 @@ none-if true true c h = absurd (false≢true (sym h))
 none-if false b c h = refl
 
 add_all-adds : (n : ℕ) (known ts : List Tree) → AreTermsOf n 1 known → AreTermsOf n 1 ts → AddsAll known ts (add_all known ts)
-add_all-adds n known [] h k = λ i. all-true (are_met_by i known)
+add_all-adds n known [] h k = λ i. sym (and-true (are_met_by i known))
 add_all-adds n known (t ∷ ts) h k =
     elim (answer known t) as (λ a. a ≡ answer known t → AddsAll known (t ∷ ts) (elim a [ Contradicted ↦ None | Held ↦ add_all known ts | Appended ↦ add_all (known ++ t ∷ []) ts ])) [
       | Contradicted ↦ (λ is i. none-if (are_met_by i known) (is_met_by i t) (are_met_by i ts) (meets_also known t Contradicted i (k.0.term.tree, k.0.has_width) is))
@@ -98,9 +92,6 @@ count-append : (i : List ℕ) (ps qs : List Partial) → met_partials i (ps ++ q
 count-append i [] qs = sym (zero-add (met_partials i qs))
 count-append i (p ∷ ps) qs = ap (λ m. times_met i p.condition + m) (count-append i ps qs) ∙ sym (add_assoc (times_met i p.condition) (met_partials i ps) (met_partials i qs))
 
-plus-none : (n : ℕ) → n + 0 ≡ n
-plus-none n = omega arith
-
 -- a condition that is no longer than its first conjuncts is these
 same-length : (first all : List Tree) → BeginsWith first all → length first ≡ length all → all ≡ first
 same-length first all h e = h.is ∙ nothing-more first h.rest (e ∙ ap length h.is)
@@ -133,8 +124,8 @@ shared false false r m e = refl
 
 module _ (n : ℕ) (c : Context) (first : List Tree) (right : IsRightContext n c) (most : n ≤ 64) where
   verdict-count : (i : List ℕ) (v : Verdict) (condition : List Tree) (used : List Leaf) → (v ≡ Unsat → are_met_by i condition ≡ false) → met_partials i (by_verdict v condition used) ≡ times_met i condition
-  verdict-count i (Sat input) condition used h = plus-none (times_met i condition)
-  verdict-count i Spent condition used h = plus-none (times_met i condition)
+  verdict-count i (Sat input) condition used h = add-zero (times_met i condition)
+  verdict-count i Spent condition used h = add-zero (times_met i condition)
   verdict-count i Unsat condition used h = ap (λ b. cond b 1 0) (sym (h refl))
 
   joined-count : (i : List ℕ) (p : Partial) (kept : List ℕ) (more : List Tree) (o : Option (List Tree)) (l : Leaf) → AddsAll p.condition more o → TermsFitIf n o → length kept ≡ n
@@ -145,7 +136,7 @@ module _ (n : ℕ) (c : Context) (first : List Tree) (right : IsRightContext n c
         | true ↦ record { condition = condition; kept = Some kept; used = p.used ++ l ∷ [] } ∷ []
         | false ↦ by_verdict (c.verdict condition (length kept)) condition (p.used ++ l ∷ [])
       ]) ≡ times_met i condition) [
-        | true ↦ plus-none (times_met i condition)
+        | true ↦ add-zero (times_met i condition)
         | false ↦ verdict-count i (c.verdict condition (length kept)) condition (p.used ++ l ∷ []) (λ e. right.verdicts.unsat condition i fits (ap (c.verdict condition) (sym size) ∙ e))
       ]
       ∙ ap (λ b. cond b 1 0) (adds i)
@@ -188,7 +179,7 @@ module _ (n : ℕ) (c : Context) (first : List Tree) (right : IsRightContext n c
   combined_all-count : (i : List ℕ) (ls : List Leaf) (p : Partial) → IsInput n i → PartialIsRight n first p → LeavesSplit n first ls → met_partials i (combined_all c (length first) ls p) ≡ times_met i p.condition
   combined_all-count i ls p is h split =
       elim p.kept as (λ o. SizeIf n o → met_partials i (elim o [ None ↦ p ∷ [] | Some kept ↦ flat_map (combined c (length first) p kept) ls ]) ≡ times_met i p.condition) [
-        | None ↦ (λ size. plus-none (times_met i p.condition))
+        | None ↦ (λ size. add-zero (times_met i p.condition))
         | Some kept ↦ (λ size. each-count i p kept ls h size split.fit split.begin
             ∙ met-once i (are_met_by i p.condition) (are_met_by i first) (are_met_by i h.begins.rest) ls (ap (are_met_by i) h.begins.is ∙ met-append i first h.begins.rest) (split.splits i is))
       ]
@@ -331,7 +322,7 @@ merges-split n c s needs results right fit least splits =
     ])) [
       | None ↦ (λ h. record { splits = λ i is. refl; least = least })
       | Some partials ↦ (λ h. record {
-        splits = λ i is. children-count n s.condition i s needs (length partials) 0 partials h.0 ∙ h.1 i is ∙ plus-none (times_met i s.condition);
+        splits = λ i is. children-count n s.condition i s needs (length partials) 0 partials h.0 ∙ h.1 i is ∙ add-zero (times_met i s.condition);
         least = children-least n s.condition s needs (length partials) 0 partials h.0;
       })
     ]

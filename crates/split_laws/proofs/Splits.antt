@@ -1,18 +1,17 @@
 -- Attempts and whole explorations split the inputs, and keep the least ones.
-use Rattle.std.proofs.Common.{◌≡◌, ℕ, zero, suc, ◌+◌, ◌<◌, List, [], ◌∷◌, ◌++◌, map, length, Option, Some, None, refl, sym, ◌∙◌, ap, subst, arith, zero-add, add_assoc, ◌⊎◌, inl, inr}
+use Rattle.std.proofs.Common.{◌≡◌, ℕ, ◌+◌, List, [], ◌∷◌, ◌++◌, map, Option, Some, None, refl, sym, ◌∙◌, ap, subst, arith, zero-add, add_assoc}
 use Rattle.std.specs.Prelude.{cond, count_by, slice_get, ◌-◌}
 use Rattle.std.specs.List.{AllByRecursion as Each}
 use Rattle.std.proofs.lemmas.List.Elements.{All-from_recursion}
 use Rattle.std.proofs.lemmas.List.Sums.{sum_by-cons}
-use Rattle.std.proofs.Math.Nat.{eq-zero-or-pos}
-use Rattle.decider.specs.Inputs.{IsAtMost}
+use Rattle.std.proofs.Math.Nat.{add-zero}
 use Rattle.terms.specs.Tree.{Tree}
 use Rattle.flat_ir.specs.declared.names.Location.{Location}
 use Rattle.flat_ir.specs.Sound.{IsInput}
 use Rattle.leaves.specs.Claims.{claim_of}
 use Rattle.leaves.specs.Events.{Leaf, told_of}
 use Rattle.sym_states.specs.Attempts.{attempt}
-use Rattle.sym_states.specs.Exploring.{Setting, zeros, context_of, recovery_if, roots_of, Reaches, forks, needs, ends, goes, all_of, Evaluates, none, stop, leaf, fork, await, crowd}
+use Rattle.sym_states.specs.Exploring.{Setting, context_of, recovery_if, roots_of, Reaches, forks, needs, ends, goes, all_of, Evaluates, none, stop, leaf, fork, await, crowd}
 use Rattle.sym_states.specs.Merging.{merged}
 use Rattle.skip_records.specs.Snapshots.{Snapshot}
 use Rattle.sym_states.specs.States.{State, Child, Go, Stop, Step, Goes, Forks, Needs, Ends, node_of}
@@ -24,7 +23,7 @@ use Rattle.state_laws.proofs.Programs.{code_of-fits}
 use Rattle.state_laws.proofs.Roots.{context_of-fits, first_state-fits, roots_of-fits}
 use Rattle.agreement.proofs.Numbers.{code-distinct}
 use Rattle.right_leaves.specs.Right.{IsLeast, KeepsLeast}
-use Rattle.right_leaves.proofs.Right.{zeros-input}
+use Rattle.right_leaves.proofs.Right.{first-least}
 use Rattle.right_leaves.proofs.Sides.{met_children, ChildrenLeast, StepKeeps}
 use Rattle.right_leaves.proofs.Walks.{attempt-keeps}
 use Rattle.exploration_laws.specs.Begins.{condition_of, ListsBegin}
@@ -108,9 +107,6 @@ least-append : (n : ℕ) (ls ms : List Leaf) → Each (KeepsLeast n) ls → Each
 least-append n [] ms h k = k
 least-append n (l ∷ ls) ms h k = (h.0, least-append n ls ms h.1 k)
 
-plus-none : (n : ℕ) → n + 0 ≡ n
-plus-none n = omega arith
-
 -- the leaves of a list split what is met of a condition, each keeps the least input, and there is one
 pub record ListIsRight (n : ℕ) (condition : List Tree) (ls : List Leaf) : Type 0 where
   pub splits : (i : List ℕ) → IsInput n i → met_leaves i ls ≡ times_met i condition
@@ -149,7 +145,7 @@ below-right n s cs lists least splits h =
     record { splits = counts; least = all-least n cs lists h; some = has-some s.kept (all_of lists) (counts s.kept least.fits ∙ met-one n s.condition s.kept least) }
 
 one-right : (n : ℕ) (condition : List Tree) (l : Leaf) → ((i : List ℕ) → IsInput n i → times_met i (told_of l).condition ≡ times_met i condition) → KeepsLeast n l → ListIsRight n condition (l ∷ [])
-one-right n condition l splits least = record { splits = λ i is. plus-none (times_met i (told_of l).condition) ∙ splits i is; least = (least, tt); some = tt }
+one-right n condition l splits least = record { splits = λ i is. add-zero (times_met i (told_of l).condition) ∙ splits i is; least = (least, tt); some = tt }
 
 lists-split : (n : ℕ) (cs : List Child) (lists : List (List Leaf)) → ListsAreRight n cs lists → ListsBegin cs lists → ListsFit n lists → ListsSplit n cs lists
 lists-split n [] [] h begin fit = tt
@@ -198,19 +194,6 @@ evaluations-split e children lists tasks right fit least h =
     lists-split e.inputs children lists (evaluates-right h right fit least) (evaluations-begin e children lists tasks h) (evaluates-fits h e.inputs right.fits fit)
 
 -- ---- explorations
-
-by-byte : (b : ℕ) (P : Type 0) → (b ≡ 0) ⊎ (0 < b) → P → (0 < b) ⊎ ((0 ≡ b) × P)
-by-byte b P (inl e) h = inr (sym e, h)
-by-byte b P (inr some) h = inl some
-
--- all zeros are at most each input
-zeros-least : (n : ℕ) (input : List ℕ) → length input ≡ n → IsAtMost (zeros n) input
-zeros-least zero input h = tt
-zeros-least (suc n) [] h = absurd (omega (arith, h))
-zeros-least (suc n) (b ∷ input) h = by-byte b (IsAtMost (zeros n) input) (eq-zero-or-pos b) (zeros-least n input (omega (arith, h)))
-
-first-least : (n : ℕ) → IsLeast n [] (zeros n)
-first-least n = record { fits = zeros-input n; met = refl; least = λ input is met. zeros-least n input is.0 }
 
 counted : (i : List ℕ) (leaves : List Leaf) → count_by (λ c. c.is_met i) (map claim_of leaves) ≡ met_leaves i leaves
 counted i [] = refl
