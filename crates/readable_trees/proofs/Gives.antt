@@ -66,6 +66,3 @@ all_mapped test (x ∷ xs) h = both h.0 (all_mapped test xs h.1)
 pub when_some : {A : Type 0} (b : Bool) (x y : A) → cond b (Some x) None ≡ Some y → (b ≡ true) × (x ≡ y)
 when_some true x y e = (refl, cc)
 when_some false x y e = absurd cc
-
-pub some_is : {A : Type 0} (x y : A) → Some x ≡ Some y → x ≡ y
-some_is x y e = cc

@@ -2,6 +2,7 @@
 use Rattle.std.proofs.Common.{◌≡◌, ℕ, zero, suc, Bool, true, false, cond, ◌&&◌, nat_le, List, Option, Some, None, refl, sym, ap, subst, ◌∙◌}
 use Rattle.std.specs.Prelude.{codes}
 use Rattle.std.specs.List.{AllByRecursion}
+use Rattle.std.proofs.lemmas.Option.{same_Some}
 use Rattle.ir_tree.specs.declared.types.IrType.{IrType, fold-IrType, fold-roll-IrType}
 use Rattle.ir_tree.specs.declared.types.IrType.TheOpen.{IrType-F}
 use Rattle.ir_tree.specs.declared.types.IrType.TheViews.{rolls-Array, rolls-Struct, rolls-Named, rolls-Int, rolls-Ptr}
@@ -14,7 +15,7 @@ use Rattle.ir_grammar.specs.Numbers.{number_after_i, width_of}
 use Rattle.ir_grammar.specs.Names.{after_sigil}
 use Rattle.ir_grammar.specs.Types.{width, integer_or, type_of, value_type, scalar_words, scalar_of, scalar_type, plain_of, array_type, struct_type, mem_type}
 use Rattle.ir_programs.specs.Readable.{is_width, width_level, has_widths}
-use Rattle.readable_trees.proofs.Gives.{Gives, step, over, made, or, token, between, both, all_mapped, when_some, some_is}
+use Rattle.readable_trees.proofs.Gives.{Gives, step, over, made, or, token, between, both, all_mapped, when_some}
 
 -- ---- numbers of bits
 
@@ -64,8 +65,8 @@ type_is : (p : Piece) (t : IrType) → type_of p ≡ Some t → HasWidths t
 type_is p t e = go (matches (word (codes "ptr")) p) (width_of p) refl e
   where
     go : (b : Bool) (o : Option ℕ) → width_of p ≡ o → integer_or b o ≡ Some t → HasWidths t
-    go b (Some n) q h = subst HasWidths (some_is (types.Int n) t h) (has_int n (width_is p n q))
-    go true None q h = subst HasWidths (some_is types.Ptr t h) has_ptr
+    go b (Some n) q h = subst HasWidths (same_Some (types.Int n) t h) (has_int n (width_is p n q))
+    go true None q h = subst HasWidths (same_Some types.Ptr t h) has_ptr
     go false None q h = absurd cc
 
 pub value_type_gives : Gives value_type.derives HasWidths
@@ -87,7 +88,7 @@ plain_is : (p : Piece) (t : IrType) → plain_of p ≡ Some t → HasWidths t
 plain_is p t e = go (matches a_local p) e
   where
     go : (b : Bool) → cond b (Some (types.Named (after_sigil p.text) p.at)) (scalar_of p) ≡ Some t → HasWidths t
-    go true h = subst HasWidths (some_is (types.Named (after_sigil p.text) p.at) t h) (has_named (after_sigil p.text) p.at)
+    go true h = subst HasWidths (same_Some (types.Named (after_sigil p.text) p.at) t h) (has_named (after_sigil p.text) p.at)
     go false h = scalar_is p t h
 
 plain_gives : Gives (one plain_of).derives HasWidths

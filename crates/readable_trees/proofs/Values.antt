@@ -1,6 +1,7 @@
 -- Values that are read: the types and widths of their constant expressions.
 use Rattle.std.proofs.Common.{◌≡◌, ℕ, zero, suc, Bool, true, false, cond, ◌&&◌, List, [], ◌∷◌, Option, Some, None, refl, subst}
 use Rattle.std.specs.List.{AllByRecursion, list_all}
+use Rattle.std.proofs.lemmas.Option.{same_Some}
 use Rattle.ir_tree.specs.declared.constants.Integer.{Integer}
 use Rattle.ir_tree.specs.declared.constants.Value.{Value}
 use Rattle.ir_tree.specs.declared.constants.ValueForm.{ValueForm}
@@ -15,7 +16,7 @@ use Rattle.ir_grammar.specs.Names.{after_sigil}
 use Rattle.ir_grammar.specs.Types.{nesting}
 use Rattle.ir_grammar.specs.Constants.{placed, const_index, gep_level, gep_global, gep_base, constant_rows, form_or_int, simple_form, value_here, simple_of, operand_of, gep_value, gep_operand, operand_where, pointer}
 use Rattle.ir_programs.specs.Readable.{is_width, is_readable_level, is_readable_form, is_readable_value}
-use Rattle.readable_trees.proofs.Gives.{Gives, step, over, made, or, token, commas, both, all_true, when_some, some_is}
+use Rattle.readable_trees.proofs.Gives.{Gives, step, over, made, or, token, commas, both, all_true, when_some}
 use Rattle.readable_trees.proofs.Types.{IsWidth, width_gives, mem_gives}
 
 -- ---- constant expressions
@@ -64,7 +65,7 @@ meaning_is [] h p form e = absurd cc
 meaning_is (row ∷ rows) h p form e = go (λ k. meaning_is rows h.1 p form k) (matches (word row.0) p) e
   where
     go : (meaning rows p ≡ Some form → IsForm form) → (b : Bool) → cond b (Some row.1) (meaning rows p) ≡ Some form → IsForm form
-    go more true k = subst IsForm (some_is row.1 form k) h.0
+    go more true k = subst IsForm (same_Some row.1 form k) h.0
     go more false k = more k
 
 rows_are : AllByRecursion (λ row. IsForm row.1) constant_rows
@@ -74,19 +75,19 @@ form_is : (fits : Integer → Bool) (p : Piece) (form : ValueForm) → simple_fo
 form_is fits p form e = go (matches a_global p) e
   where
     other : (o : Option ValueForm) (n : Option Integer) → meaning constant_rows p ≡ o → form_or_int o n ≡ Some form → IsForm form
-    other (Some f) n q h = subst IsForm (some_is f form h) (meaning_is constant_rows rows_are p f q)
-    other None (Some n) q h = subst IsForm (some_is (forms.Int n) form h) refl
+    other (Some f) n q h = subst IsForm (same_Some f form h) (meaning_is constant_rows rows_are p f q)
+    other None (Some n) q h = subst IsForm (same_Some (forms.Int n) form h) refl
     other None None q h = absurd cc
 
     go : (b : Bool) → cond b (Some (forms.Global (after_sigil p.text))) (form_or_int (meaning constant_rows p) (int_in fits p)) ≡ Some form → IsForm form
-    go true h = subst IsForm (some_is (forms.Global (after_sigil p.text)) form h) refl
+    go true h = subst IsForm (same_Some (forms.Global (after_sigil p.text)) form h) refl
     go false h = other (meaning constant_rows p) (int_in fits p) refl h
 
 simple_is : (fits : Integer → Bool) (p : Piece) (v : Value) → simple_of fits p ≡ Some v → IsReadable v
 simple_is fits p v e = go (simple_form fits p) refl e
   where
     go : (o : Option ValueForm) → simple_form fits p ≡ o → value_here p.at o ≡ Some v → IsReadable v
-    go (Some form) q h = subst IsReadable (some_is (record { at = p.at; form = form }) v h) (form_is fits p form q)
+    go (Some form) q h = subst IsReadable (same_Some (record { at = p.at; form = form }) v h) (form_is fits p form q)
     go None q h = absurd cc
 
 pub simple_gives : (fits : Integer → Bool) → Gives (one (simple_of fits)).derives IsReadable
@@ -96,7 +97,7 @@ operand_is : (fits : Integer → Bool) (p : Piece) (v : Value) → operand_of fi
 operand_is fits p v e = go (matches a_local p) e
   where
     go : (b : Bool) → cond b (Some (record { at = p.at; form = forms.Local (after_sigil p.text) })) (simple_of fits p) ≡ Some v → IsReadable v
-    go true h = subst IsReadable (some_is (record { at = p.at; form = forms.Local (after_sigil p.text) }) v h) refl
+    go true h = subst IsReadable (same_Some (record { at = p.at; form = forms.Local (after_sigil p.text) }) v h) refl
     go false h = simple_is fits p v h
 
 pub operand_gives : (fits : Integer → Bool) → Gives (operand_where fits).derives IsReadable
