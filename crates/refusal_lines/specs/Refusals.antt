@@ -3,15 +3,13 @@ use Rattle.std.specs.Prelude.{ℕ, List, [], ◌∷◌, ◌++◌, Option, Some, 
 use Rattle.std.specs.Fmt.{decimal}
 use Rattle.flat_ir.specs.declared.check.CheckError.{CheckError}
 use Rattle.flat_ir.specs.declared.check.CheckError.TheVariants.{Undefined, TypeClash, BadEdge}
-use Rattle.flat_ir.specs.declared.names.FuncId.{FuncId}
-use Rattle.flat_ir.specs.declared.names.NodeId.{NodeId}
 use Rattle.flat_ir.specs.declared.program.ProgramData.{ProgramData}
 use Rattle.ir_tree.specs.Texts.{global_text}
 use Rattle.ir_reader.specs.declared.text.SyntaxError.{SyntaxError}
 use Rattle.ir_reader.specs.declared.text.SyntaxError.TheVariants as syntax
 use Rattle.ir_resolve.specs.declared.error.ResolveError.{ResolveError}
 use Rattle.ir_resolve.specs.declared.error.ResolveError.TheVariants as resolve
-use Rattle.name_texts.specs.Lines.{line, function_text, register_text}
+use Rattle.name_texts.specs.Lines.{line, place_text, register_text}
 
 -- a refusal that has no place
 abbrev pub refused : List ℕ → List ℕ
@@ -50,11 +48,7 @@ unresolved_line resolve.Memory = None
 
 -- ---- a program that doesn't meet its conditions
 
--- a node by its function's name
-abbrev pub node_text : ProgramData → FuncId → NodeId → List ℕ
-node_text p f n = function_text p f ++ (codes ":" ++ decimal n.0)
-
 abbrev pub unchecked_line : ProgramData → CheckError → List ℕ
-unchecked_line p (Undefined f n r) = line (codes "refused Undefined " ∷ node_text p f n ∷ codes " " ∷ register_text p f r ∷ [])
-unchecked_line p (TypeClash f n) = line (codes "refused TypeClash " ∷ node_text p f n ∷ [])
-unchecked_line p (BadEdge f n) = line (codes "refused BadEdge " ∷ node_text p f n ∷ [])
+unchecked_line p (Undefined f n r) = line (codes "refused Undefined " ∷ place_text p f n ∷ codes " " ∷ register_text p f r ∷ [])
+unchecked_line p (TypeClash f n) = line (codes "refused TypeClash " ∷ place_text p f n ∷ [])
+unchecked_line p (BadEdge f n) = line (codes "refused BadEdge " ∷ place_text p f n ∷ [])

@@ -2,19 +2,15 @@
 ghost use Rattle.std.specs.Prelude.{◌≡◌, ◌++◌, ◌∷◌, [], Some, IfOk, OnOk, codes};
 ghost use Rattle.std.specs.Fmt.{decimal};
 ghost use Rattle.ir_tree.specs.Texts.{global_text};
+ghost use Rattle.name_texts.specs.Lines.{place_text};
 ghost use Rattle.refusal_lines.specs.Refusals as spec;
 
 use flat_ir::{CheckError, FuncId, NodeId, Program};
 use ir_reader::text::SyntaxError;
 use ir_resolve::ResolveError;
-use name_texts::{put_function, put_name, put_register};
+use name_texts::{put_name, put_place, put_register};
 use std::alloc::{AllocError, Global};
-
-fn put_str(text: &mut Vec<u8>, piece: &str) -> Result<(), AllocError>
-    ensures { OnOk result (text.new.items ≡ text.old.items ++ piece.now) }
-{
-    text.extend_from_slice(piece.as_bytes())
-}
+use value_texts::{put_number, put_text};
 
 fn put_end(text: &mut Vec<u8>) -> Result<(), AllocError>
     ensures { OnOk result (text.new.items ≡ text.old.items ++ (10 ∷ [])) }
@@ -22,20 +18,13 @@ fn put_end(text: &mut Vec<u8>) -> Result<(), AllocError>
     text.extend_from_slice(b"\n")
 }
 
-fn put_number(alloc: Global, text: &mut Vec<u8>, number: u32) -> Result<(), AllocError>
-    ensures { OnOk result (text.new.items ≡ text.old.items ++ decimal number) }
-{
-    let digits = format!(in alloc; "{number}")?;
-    put_str(text, digits.as_str())
-}
-
 // The start of a line, to the name of the refusal.
 fn begun(alloc: Global, name: &str) -> Result<Vec<u8>, AllocError>
     ensures { IfOk result (λ text. text.items ≡ codes "refused " ++ name.now) }
 {
     let mut text = Vec::new(alloc);
-    put_str(&mut text, "refused ")?;
-    put_str(&mut text, name)?;
+    put_text(&mut text, "refused ")?;
+    put_text(&mut text, name)?;
     Ok(text)
 }
 
@@ -44,8 +33,8 @@ fn begun_at(alloc: Global, name: &str, at: u32) -> Result<Vec<u8>, AllocError>
     ensures { IfOk result (λ text. text.items ≡ codes "refused " ++ (name.now ++ (codes " at=" ++ decimal at))) }
 {
     let mut text = begun(alloc, name)?;
-    put_str(&mut text, " at=")?;
-    put_number(alloc, &mut text, at)?;
+    put_text(&mut text, " at=")?;
+    put_number(alloc, &mut text, u64::from(at))?;
     Ok(text)
 }
 
@@ -70,7 +59,7 @@ fn unsupported(alloc: Global, at: u32, what: &[u8]) -> Result<Vec<u8>, AllocErro
     ensures { IfOk result (λ line. line.items ≡ spec.refused_with (codes "Unsupported") at what.now) }
 {
     let mut text = begun_at(alloc, "Unsupported", at)?;
-    put_str(&mut text, " ")?;
+    put_text(&mut text, " ")?;
     text.extend_from_slice(what)?;
     put_end(&mut text)?;
     Ok(text)
@@ -79,7 +68,7 @@ fn unsupported(alloc: Global, at: u32, what: &[u8]) -> Result<Vec<u8>, AllocErro
 fn put_global(text: &mut Vec<u8>, name: &[u8]) -> Result<(), AllocError>
     ensures { OnOk result (text.new.items ≡ text.old.items ++ global_text name.now) }
 {
-    put_str(text, "@")?;
+    put_text(text, "@")?;
     put_name(text, name)
 }
 
@@ -87,7 +76,7 @@ fn unknown_function(alloc: Global, at: u32, name: &[u8]) -> Result<Vec<u8>, Allo
     ensures { IfOk result (λ line. line.items ≡ spec.refused_with (codes "UnknownFunction") at (global_text name.now)) }
 {
     let mut text = begun_at(alloc, "UnknownFunction", at)?;
-    put_str(&mut text, " ")?;
+    put_text(&mut text, " ")?;
     put_global(&mut text, name)?;
     put_end(&mut text)?;
     Ok(text)
@@ -132,20 +121,6 @@ pub fn unresolved_line(alloc: Global, error: &ResolveError) -> Result<Vec<u8>, A
     }
 }
 
-fn put_node(
-    alloc: Global,
-    text: &mut Vec<u8>,
-    program: &Program,
-    function: FuncId,
-    node: NodeId,
-) -> Result<(), AllocError>
-    ensures { OnOk result (text.new.items ≡ text.old.items ++ spec.node_text program.now function node) }
-{
-    put_function(text, program, function)?;
-    put_str(text, ":")?;
-    put_number(alloc, text, node.0)
-}
-
 // The start of a line, to the node of the refusal.
 fn begun_in(
     alloc: Global,
@@ -154,11 +129,11 @@ fn begun_in(
     function: FuncId,
     node: NodeId,
 ) -> Result<Vec<u8>, AllocError>
-    ensures { IfOk result (λ text. text.items ≡ codes "refused " ++ (name.now ++ (codes " " ++ spec.node_text program.now function node))) }
+    ensures { IfOk result (λ text. text.items ≡ codes "refused " ++ (name.now ++ (codes " " ++ place_text program.now function node))) }
 {
     let mut text = begun(alloc, name)?;
-    put_str(&mut text, " ")?;
-    put_node(alloc, &mut text, program, function, node)?;
+    put_text(&mut text, " ")?;
+    put_place(alloc, &mut text, program, function, node)?;
     Ok(text)
 }
 
@@ -177,7 +152,7 @@ pub fn unchecked_line(
             register,
         } => {
             let mut text = begun_in(alloc, "Undefined", program, function, node)?;
-            put_str(&mut text, " ")?;
+            put_text(&mut text, " ")?;
             put_register(&mut text, program, function, register)?;
             put_end(&mut text)?;
             Ok(text)
