@@ -35,7 +35,8 @@ use Rattle.sym_bytes.specs.Under.{Results, bits_under, byte_under, value_under, 
 use Rattle.byte_laws.specs.Types.{AreBytes, AreReturned, HasSize}
 use Rattle.byte_laws.proofs.Joins.{value_law, test_law, mixed_law}
 use Rattle.log_laws.specs.Law.{IsBorn, IsOnce, LifeIs}
-use Rattle.log_laws.specs.Logs.{Did, Marked, Log, life, seen_at, cells_of}
+use Rattle.flat_ir.specs.Locations.{cells_of}
+use Rattle.log_laws.specs.Logs.{Did, Marked, Log, life, seen_at}
 use Rattle.log_laws.specs.Reading.{initial_bytes, read_byte}
 use Rattle.log_laws.proofs.Accesses.{read_law}
 use Rattle.log_laws.proofs.Births.{life_law}

@@ -11,7 +11,8 @@ use Rattle.sym_bytes.specs.declared.names.CallId.{CallId}
 use Rattle.sym_bytes.specs.Entry.{Entry}
 use Rattle.sym_bytes.specs.Answers as wanted
 use Rattle.sym_bytes.specs.Answers.{Want}
-use Rattle.log_laws.specs.Logs.{Fill, Item, Log, Did, Marked, cells_of, life_of, is_open, is_alloc_of}
+use Rattle.flat_ir.specs.Locations.{cells_of, life_of}
+use Rattle.log_laws.specs.Logs.{Fill, Item, Log, Did, Marked, is_open, is_alloc_of}
 use Rattle.log_laws.specs.Needs.{left_behind, left_behind_all, recovered_at, is_covered, call_if, need_bytes, constants_of, offsets_from, is_freed, need_life_back, need_life, need_all, need, location_of}
 use Rattle.exploration_laws.specs.Open.{IsOpenIn, marked, behind, MarksFall, Rise, NeedsAreOpen, NeedsRise}
 

@@ -2,8 +2,10 @@ pub mod Calls
 pub mod Digest
 pub mod Effects
 pub mod History
+pub mod Locations
 pub mod Machine
 pub mod MadeNames
+pub mod Numbers
 pub mod ObjectDigest
 pub mod Orderly
 pub mod Registers

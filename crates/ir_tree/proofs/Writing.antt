@@ -47,12 +47,10 @@ after_append w [] ys = refl
 after_append w (x ∷ xs) ys = after_append (with_token w x) xs ys
 
 -- one more byte of a quoted text
-pub escape_more : (w p q : Written) (bytes : List ℕ) (i : ℕ) → i < length bytes → p ≡ extended w (34 ∷ escaped (take i bytes)) → q ≡ extended p (escaped (get_or bytes i 0 ∷ []))
-    → q ≡ extended w (34 ∷ escaped (take (i + 1) bytes))
-escape_more w p q bytes i lt ep eq =
-    eq ∙ ap (λ r. extended r (escaped (get_or bytes i 0 ∷ []))) ep
-    ∙ ap (λ x. record { text = x; glued = w.glued }) (append_assoc w.text (34 ∷ escaped (take i bytes)) (escaped (get_or bytes i 0 ∷ [])))
-    ∙ ap (λ x. record { text = w.text ++ 34 ∷ x; glued = w.glued }) (sym (escaped_append (take i bytes) (get_or bytes i 0 ∷ [])) ∙ ap escaped (sym (take_more bytes i 0 lt)))
+pub escaped_more : (text before after : List ℕ) (bytes : List ℕ) (i : ℕ) → i < length bytes → before ≡ text ++ escaped (take i bytes) → after ≡ before ++ escaped (get_or bytes i 0 ∷ []) → after ≡ text ++ escaped (take (i + 1) bytes)
+escaped_more text before after bytes i lt e d =
+    d ∙ ap (λ (x : List ℕ). x ++ escaped (get_or bytes i 0 ∷ [])) e ∙ append_assoc text (escaped (take i bytes)) (escaped (get_or bytes i 0 ∷ []))
+    ∙ ap (λ (x : List ℕ). text ++ x) (sym (escaped_append (take i bytes) (get_or bytes i 0 ∷ [])) ∙ ap escaped (sym (take_more bytes i 0 lt)))
 
 -- ---- numbers
 

@@ -12,7 +12,8 @@ use crate::shown::{put_input, put_output, put_value, put_value_of, with_results}
 use crate::term_texts::put_term;
 use flat_ir::{FaultKind, FuncId, NodeId, Program};
 use leaves::{Cause, Event, EventKind, Leaf, LeafKind, Options, Told};
-use name_texts::{put_name, put_place};
+use ir_tree::printing::push_name;
+use name_texts::put_place;
 use places::Home;
 use plain_list::Sequence;
 use std::alloc::{AllocError, Global};
@@ -35,7 +36,7 @@ fn put_skip(text: &mut Vec<u8>, name: &[u8]) -> Result<(), AllocError>
     ensures { OnOk result (text.new.items ≡ text.old.items ++ spec.skip_line name.now) }
 {
     put_text(text, "skip ")?;
-    put_name(text, name)?;
+    push_name(text, name)?;
     put_text(text, "\n")
 }
 

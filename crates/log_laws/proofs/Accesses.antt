@@ -16,7 +16,8 @@ use Rattle.sym_bytes.specs.Under.{Results, bits_under, byte_under}
 use Rattle.sym_bytes.specs.Joining.{put_before}
 use Rattle.sym_bytes.specs.Fitting.{IsWide, AreEntries}
 use Rattle.log_laws.specs.Law.{IsBorn, Wants}
-use Rattle.log_laws.specs.Logs.{Log, seen_at, cells_of}
+use Rattle.flat_ir.specs.Locations.{cells_of}
+use Rattle.log_laws.specs.Logs.{Log, seen_at}
 use Rattle.log_laws.specs.Needs.{need, bits_in, constants_of, offsets_from}
 use Rattle.log_laws.specs.Reading.{initial_bytes, read_byte}
 use Rattle.terms.specs.Value.{are_met_by}

@@ -17,9 +17,10 @@ use Rattle.sym_bytes.specs.Entry as entry
 use Rattle.sym_bytes.specs.Answers.{Dead}
 use Rattle.sym_bytes.specs.Under.{Results}
 use Rattle.log_laws.specs.Law.{LifeIs, is_life_of, IsOnce}
-use Rattle.log_laws.specs.Logs.{Fill, Did, Marked, Log, life, alive_with, newest_size, is_free_of, is_alloc_of, seen_at, life_of, filled, is_filled, is_open, same_location}
+use Rattle.flat_ir.specs.Locations.{life_of, same_location, lies_in}
+use Rattle.log_laws.specs.Logs.{Fill, Did, Marked, Log, life, alive_with, newest_size, is_free_of, is_alloc_of, seen_at, filled, is_filled, is_open}
 use Rattle.log_laws.specs.Needs.{recovered_at, is_freed, need_life, need_life_back, call_if}
-use Rattle.log_laws.specs.Standing.{Gave, changes_under, all_under, log_under, lies_in, AreFills, IsMarkOf, AreMarks, StandsFor}
+use Rattle.log_laws.specs.Standing.{Gave, changes_under, all_under, log_under, AreFills, IsMarkOf, AreMarks, StandsFor}
 use Rattle.log_laws.proofs.LogChanges.{same_location-true, sites_agree, is_alloc_at}
 use Rattle.log_laws.proofs.Marks.{filled_is, unfilled_is, closed_is, under_append, append_empty, call_closed, recovered_any, alloc_any, allocs_any}
 use Rattle.log_laws.proofs.Lives.{frees_under, sizes_under, size_moves, made_life, and_false}

@@ -16,7 +16,8 @@ use Rattle.sym_bytes.specs.Building.{number, wide}
 use Rattle.sym_bytes.specs.Byte as byte
 use Rattle.sym_bytes.specs.Byte.{SymByte}
 use Rattle.sym_bytes.specs.Entry as entry
-use Rattle.log_laws.specs.Logs.{Item, Did, Marked, Log, cells_of, life_of, life, position, fill}
+use Rattle.flat_ir.specs.Locations.{cells_of, life_of}
+use Rattle.log_laws.specs.Logs.{Item, Did, Marked, Log, life, position, fill}
 use Rattle.log_laws.specs.Needs.{need}
 use Rattle.log_laws.specs.Reading.{read_byte}
 

@@ -18,7 +18,8 @@ use Rattle.sym_bytes.specs.Building.{same_call}
 use Rattle.sym_bytes.specs.Under.{Results, bits_under}
 use Rattle.log_laws.specs.Logs.{Fill, Did, Marked, Log, seen_at, filled, is_open, fill, gets_in, puts_in, position, output}
 use Rattle.log_laws.specs.Needs.{need_all, call_if}
-use Rattle.log_laws.specs.Standing.{Gave, writes_under, changes_under, all_under, log_under, lies_in, AreFills, AreMarks, StandsFor}
+use Rattle.flat_ir.specs.Locations.{lies_in}
+use Rattle.log_laws.specs.Standing.{Gave, writes_under, changes_under, all_under, log_under, AreFills, AreMarks, StandsFor}
 use Rattle.log_laws.proofs.Marks.{closed_is, under_append, append_empty, call_closed}
 
 -- ---- fills

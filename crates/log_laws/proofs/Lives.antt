@@ -16,7 +16,8 @@ use Rattle.sym_bytes.specs.Entry as entry
 use Rattle.sym_bytes.specs.Byte.{SymByte}
 use Rattle.sym_bytes.specs.Under.{Results, bits_under}
 use Rattle.log_laws.specs.Law.{LifeIs}
-use Rattle.log_laws.specs.Logs.{Did, life, life_among, alive_with, newest_size, is_free_of, life_of}
+use Rattle.flat_ir.specs.Locations.{life_of}
+use Rattle.log_laws.specs.Logs.{Did, life, life_among, alive_with, newest_size, is_free_of}
 use Rattle.log_laws.specs.Standing.{Gave, writes_under, all_under, StandsFor}
 use Rattle.log_laws.proofs.Unmarked.{seen_entries, entries_under}
 

@@ -12,9 +12,8 @@ use Rattle.flat_ir.specs.declared.names.Site.TheVariants as site
 use Rattle.flat_ir.specs.declared.values.ConcreteByte.{ConcreteByte}
 use Rattle.flat_ir.specs.History.{Change, Write, Alloc, Free, Get, Put, History, same_object, same_steps, same_step}
 use Rattle.log_laws.specs.Law.{byte_over, Unwritten, IsBorn}
-use Rattle.log_laws.specs.Logs.{same_site, same_location, cells_of}
+use Rattle.flat_ir.specs.Locations.{same_site, same_location, cells_of, lies_in}
 use Rattle.flat_ir.specs.History.{site_of}
-use Rattle.log_laws.specs.Standing.{lies_in}
 
 -- ---- places are one where the tests say so
 

@@ -23,11 +23,12 @@ use Rattle.sym_bytes.specs.Byte.{SymByte}
 use Rattle.sym_bytes.specs.Under.{Results, bits_under, byte_under}
 use Rattle.log_laws.specs.Law.{byte_over, Unwritten, IsBorn, Wants}
 use Rattle.sym_bytes.specs.Fitting.{IsWide, AreEntries}
-use Rattle.log_laws.specs.Logs.{Fill, Did, Marked, Log, seen_at, cells_of, same_location, is_filled, filled, is_open, is_alloc_of}
+use Rattle.flat_ir.specs.Locations.{cells_of, same_location, location_of as place_of, lies_in}
+use Rattle.log_laws.specs.Logs.{Fill, Did, Marked, Log, seen_at, is_filled, filled, is_open, is_alloc_of}
 use Rattle.log_laws.specs.Needs.{left_by, left_behind, left_behind_all, recovered_at, is_covered, call_if, need_bytes}
 use Rattle.log_laws.specs.Reading.{initial_bytes, read_byte}
 use Rattle.terms.specs.Value.{are_met_by}
-use Rattle.log_laws.specs.Standing.{Gave, writes_under, changes_under, all_under, log_under, place_of, lies_in, OnlyIn, AreFills, IsMarkOf, AreMarks, StandsFor}
+use Rattle.log_laws.specs.Standing.{Gave, writes_under, changes_under, all_under, log_under, OnlyIn, AreFills, IsMarkOf, AreMarks, StandsFor}
 use Rattle.log_laws.proofs.Chains.{over_append}
 use Rattle.log_laws.proofs.LogChanges.{same_location-true, over_cells, wrote, is_write_at, wrote_over, any_filter, unwritten_over, unwritten_parts, is_alloc_at, born_unwritten, born_rest}
 use Rattle.log_laws.proofs.Unmarked.{over_initial, seen_law}

@@ -9,7 +9,8 @@ use Rattle.sym_bytes.specs.Byte.{SymByte}
 use Rattle.sym_bytes.specs.Under.{Results, bits_under, byte_under}
 use Rattle.log_laws.specs.Law.{byte_over, IsBorn, Wants}
 use Rattle.sym_bytes.specs.Fitting.{IsWide, AreEntries}
-use Rattle.log_laws.specs.Logs.{Log, seen_at, cells_of}
+use Rattle.flat_ir.specs.Locations.{cells_of}
+use Rattle.log_laws.specs.Logs.{Log, seen_at}
 use Rattle.log_laws.specs.Needs.{need_bytes}
 use Rattle.log_laws.specs.Reading.{initial_bytes, read_byte}
 use Rattle.terms.specs.Value.{are_met_by}

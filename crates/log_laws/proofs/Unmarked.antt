@@ -13,7 +13,8 @@ use Rattle.sym_bytes.specs.Byte.{SymByte}
 use Rattle.sym_bytes.specs.Under.{Results, bits_under, byte_under}
 use Rattle.log_laws.specs.Law.{byte_over}
 use Rattle.sym_bytes.specs.Fitting.{IsWide, AreEntries}
-use Rattle.log_laws.specs.Logs.{Did, Log, seen_at, cells_of}
+use Rattle.flat_ir.specs.Locations.{cells_of}
+use Rattle.log_laws.specs.Logs.{Did, Log, seen_at}
 use Rattle.log_laws.specs.Reading.{initial_bytes, initial_at, chain_of, read_byte}
 use Rattle.terms.specs.Value.{are_met_by}
 use Rattle.log_laws.specs.Standing.{Gave, changes_under, all_under, log_under, StandsFor}

@@ -6,10 +6,9 @@ use Rattle.flat_ir.specs.declared.names.Location.{Location}
 use Rattle.flat_ir.specs.declared.names.Location.TheVariants as location
 use Rattle.flat_ir.specs.declared.names.ObjectName.{ObjectName}
 use Rattle.flat_ir.specs.declared.names.ObjectName.TheVariants as object
-use Rattle.flat_ir.specs.declared.names.Site.{Site}
-use Rattle.flat_ir.specs.declared.names.Site.TheVariants as site
 use Rattle.flat_ir.specs.declared.program.GlobalVar.{GlobalVar}
-use Rattle.flat_ir.specs.History.{same_object, size_of_global, site_of}
+use Rattle.flat_ir.specs.History.{same_object, size_of_global}
+use Rattle.flat_ir.specs.Locations.{cells_of, life_of, same_location}
 use Rattle.sym_bytes.specs.declared.names.CallId.{CallId}
 use Rattle.sym_bytes.specs.Entry.{Entry}
 use Rattle.sym_bytes.specs.Entry as entry
@@ -29,30 +28,6 @@ pub data Item : Type 0 where
 
 abbrev pub Log : Type 0
 Log = List Item
-
--- the two are one site
-abbrev pub same_site : Site → Site → Bool
-same_site (site.Global g) (site.Global h) = g == h
-same_site (site.Node f n) (site.Node g m) = (f.0 == g.0) && (n.0 == m.0)
-same_site (site.Global g) (site.Node f n) = false
-same_site (site.Node f n) (site.Global g) = false
-
--- the two are one location
-abbrev pub same_location : Location → Location → Bool
-same_location (location.Cells s) (location.Cells t) = same_site s t
-same_location (location.Life s) (location.Life t) = same_site s t
-same_location location.Input location.Input = true
-same_location location.Output location.Output = true
-same_location location.Result location.Result = true
-same_location _ _ = false
-
--- where an object's bytes lie
-abbrev pub cells_of : ObjectName → Location
-cells_of x = location.Cells (site_of x)
-
--- where it is said whether an object lives
-abbrev pub life_of : ObjectName → Location
-life_of x = location.Life (site_of x)
 
 -- the location in which an entry lies
 abbrev pub place_of : Entry → Location

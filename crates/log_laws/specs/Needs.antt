@@ -18,7 +18,8 @@ use Rattle.sym_bytes.specs.Answers.{Want}
 use Rattle.sym_bytes.specs.Answers as wanted
 use Rattle.sym_bytes.specs.Building.{behind}
 use Rattle.sym_bytes.specs.Joining.{put_before}
-use Rattle.log_laws.specs.Logs.{Fill, Item, Did, Marked, Log, cells_of, life_of, is_open, is_alloc_of, is_free_of}
+use Rattle.flat_ir.specs.Locations.{cells_of, life_of}
+use Rattle.log_laws.specs.Logs.{Fill, Item, Did, Marked, Log, is_open, is_alloc_of, is_free_of}
 
 abbrev pub bits_in : Option Number → Option ℕ
 bits_in None = None

@@ -21,7 +21,8 @@ use Rattle.sym_bytes.specs.Byte.{SymByte}
 use Rattle.sym_bytes.specs.Byte as byte
 use Rattle.sym_bytes.specs.Building.{number, wide, equal, behind}
 use Rattle.sym_bytes.specs.Joining.{int_of}
-use Rattle.log_laws.specs.Logs.{Log, seen_at, cells_of}
+use Rattle.flat_ir.specs.Locations.{cells_of}
+use Rattle.log_laws.specs.Logs.{Log, seen_at}
 
 -- a byte that is the one looked for where the test is 1
 pub record Candidate : Type 0 where

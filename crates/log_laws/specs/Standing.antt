@@ -2,7 +2,6 @@
 use Rattle.std.specs.Prelude.{◌≡◌, ℕ, ◌+◌, ◌%◌, ◌^◌, Bool, true, List, [], ◌∷◌, ◌++◌, filter}
 use Rattle.std.specs.List.{list_any, flat_map}
 use Rattle.flat_ir.specs.declared.names.Location.{Location}
-use Rattle.flat_ir.specs.declared.names.Location.TheVariants as location
 use Rattle.flat_ir.specs.declared.names.ObjectName.{ObjectName}
 use Rattle.flat_ir.specs.History.{Change, Write, Alloc, Free, Get, Put, History}
 use Rattle.sym_bytes.specs.declared.names.CallId.{CallId}
@@ -10,7 +9,8 @@ use Rattle.sym_bytes.specs.Entry.{Entry}
 use Rattle.sym_bytes.specs.Entry as entry
 use Rattle.sym_bytes.specs.Byte.{SymByte}
 use Rattle.sym_bytes.specs.Under.{Results, bits_under, byte_under}
-use Rattle.log_laws.specs.Logs.{Fill, Item, Did, Marked, Log, cells_of, life_of, same_location}
+use Rattle.flat_ir.specs.Locations.{same_location, location_of, lies_in}
+use Rattle.log_laws.specs.Logs.{Fill, Item, Did, Marked, Log}
 
 -- the bytes of a Write from byte j on, the last one first
 abbrev pub writes_under : List ℕ → Results → ObjectName → ℕ → ℕ → List SymByte → List Change
@@ -29,17 +29,6 @@ changes_under input results entry.Get = Get ∷ []
 abbrev pub all_under : List ℕ → Results → List Entry → List Change
 all_under input results es = flat_map (changes_under input results) es
 
--- the location in which a change lies
-abbrev pub place_of : Change → Location
-place_of (Write x k b) = cells_of x
-place_of (Alloc x size) = life_of x
-place_of (Free x) = life_of x
-place_of Get = location.Input
-place_of (Put b) = location.Output
-
-abbrev pub lies_in : Location → Change → Bool
-lies_in at change = same_location at (place_of change)
-
 -- what each skipped call changed, the newest first
 abbrev pub Gave : Type 0
 Gave = CallId → List Change
@@ -55,7 +44,7 @@ log_under input results gave log = flat_map (item_under input results gave) log
 -- each change lies in one of the locations
 abbrev pub OnlyIn : List Location → List Change → Type 0
 OnlyIn mods [] = Unit {0}
-OnlyIn mods (change ∷ changes) = (list_any (same_location (place_of change)) mods ≡ true) × OnlyIn mods changes
+OnlyIn mods (change ∷ changes) = (list_any (same_location (location_of change)) mods ≡ true) × OnlyIn mods changes
 
 -- each fill is the part of the changes that lies in its location
 abbrev pub AreFills : List ℕ → Results → List Change → List Fill → Type 0

@@ -20,10 +20,11 @@ ghost use Rattle.sym_bytes.specs.Entry.{Entry};
 ghost use Rattle.sym_bytes.specs.Fitting.{IsWide, AreEntries};
 ghost use Rattle.sym_bytes.specs.Under.{Results, bits_under, byte_under};
 ghost use Rattle.log_laws.specs.Law.{IsBorn, IsOnce, LifeIs, Wants};
-ghost use Rattle.log_laws.specs.Logs.{Did, Marked, Log, seen_at, cells_of, life, position, output, fill};
+ghost use Rattle.flat_ir.specs.Locations.{cells_of, lies_in};
+ghost use Rattle.log_laws.specs.Logs.{Did, Marked, Log, seen_at, life, position, output, fill};
 ghost use Rattle.log_laws.specs.Needs.{need, need_bytes};
 ghost use Rattle.log_laws.specs.Reading.{initial_bytes, read_byte};
-ghost use Rattle.log_laws.specs.Standing.{Gave, changes_under, all_under, log_under, lies_in, OnlyIn, StandsFor, StandsIn};
+ghost use Rattle.log_laws.specs.Standing.{Gave, changes_under, all_under, log_under, OnlyIn, StandsFor, StandsIn};
 
 /// Where the log stands for the history and no skipped call is needed for so many bytes of an object, a byte that is read
 /// of them is, under each input that meets the condition, the byte last written there.

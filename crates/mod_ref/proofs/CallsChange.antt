@@ -35,7 +35,8 @@ use Rattle.points_to.specs.Within.{BaseWithin, PointsWithin, callee_of, IsWithin
 use Rattle.points_to.proofs.AskedIn.{Follow, follow_head, follow_tail}
 use Rattle.points_to.proofs.Containing.{node_reads}
 use Rattle.points_to.proofs.RunsWithin.{address_within, operands_within, result_func, step_within}
-use Rattle.mod_ref.specs.Changes.{changed_by, written_through, freed_by, is_malloc_site, changes, writes, frees, Changes, itself, within, location_of}
+use Rattle.flat_ir.specs.Locations.{location_of}
+use Rattle.mod_ref.specs.Changes.{changed_by, written_through, freed_by, is_malloc_site, changes, writes, frees, Changes, itself, within}
 use Rattle.mod_ref.specs.Calls.{Leads, none, more, Adds}
 
 nothing : (p : ProgramData) (f : FuncId) (h : History) → Adds p f h h

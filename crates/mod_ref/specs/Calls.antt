@@ -8,7 +8,8 @@ use Rattle.flat_ir.specs.Machine.{State, On, state_of}
 use Rattle.flat_ir.specs.Run.{step}
 use Rattle.flat_ir.specs.Whole.{IsWhole}
 use Rattle.points_to.specs.Within.{IsWithin}
-use Rattle.mod_ref.specs.Changes.{Changes, location_of}
+use Rattle.flat_ir.specs.Locations.{location_of}
+use Rattle.mod_ref.specs.Changes.{Changes}
 
 -- steps that lead from one state to another, each of which is made while at least so many frames wait
 pub data Leads (p : ProgramData) (input : List ℕ) (depth : ℕ) (s : State) : State → Type 0 where

@@ -69,11 +69,3 @@ pub data ChangesAt (p : ProgramData) (f : FuncId) (n : NodeId) : Location → Ty
 pub data Changes (p : ProgramData) : FuncId → Location → Type 0 where
   itself : (f : FuncId) (n : NodeId) (l : Location) → ChangesAt p f n l → Changes p f l
   within : (f : FuncId) (n : NodeId) (callee : FuncId) (l : Location) → callee_of (node_at p f n) ≡ Some callee → Changes p callee l → Changes p f l
-
--- where a change of the history lies
-abbrev pub location_of : Change → Location
-location_of (Write x k b) = location.Cells (site_of x)
-location_of (Alloc x size) = location.Life (site_of x)
-location_of (Free x) = location.Life (site_of x)
-location_of Get = location.Input
-location_of (Put b) = location.Output

@@ -3,4 +3,4 @@
 
 mod texts;
 
-pub use texts::{put_function, put_global, put_name, put_place, put_register};
+pub use texts::{put_function, put_global, put_place, put_register};

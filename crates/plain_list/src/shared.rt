@@ -1,5 +1,6 @@
 //! A list that shares its tail.
-ghost use Rattle.std.specs.Prelude.{◌≡◌, ◌↔◌, ◌∷◌, [], IsTrue, IfOk, MatchOption};
+ghost use Rattle.std.specs.Prelude.{◌≡◌, ◌↔◌, ◌∷◌, [], IsTrue, IfOk, IfErr, MatchOption};
+ghost use Rattle.plain_list.specs.Links.{items_of};
 
 use std::alloc::{AllocError, Global};
 use std::marker::Model;
@@ -32,6 +33,17 @@ impl<T: Drop> Drop for Link<T> {
                     }
                 }
             }
+        }
+    }
+}
+
+impl<T: Drop> Link<T> {
+    fn split(self) -> Option<(T, Shared<T>)>
+        ensures { MatchOption result (items_of self ≡ []) (λ p. items_of self ≡ p.0 ∷ p.1) }
+    {
+        match self {
+            Link::Start => None,
+            Link::Newest(item, older) => Some((item, older)),
         }
     }
 }
@@ -90,6 +102,18 @@ impl<T: Drop> Shared<T> {
         match &*self.link {
             Link::Start => None,
             Link::Newest(item, older) => Some((item, older)),
+        }
+    }
+
+    /// The newest element and those before it, where no other list shares them; else the list again.
+    pub fn split(self) -> Result<Option<(T, Shared<T>)>, Shared<T>>
+        ensures ok { IfOk result (λ o. MatchOption o (self ≡ []) (λ p. self ≡ p.0 ∷ p.1)) }
+        ensures err { IfErr result (λ s. s ≡ self) }
+    {
+        let Shared { link } = self;
+        match Arc::try_unwrap(link) {
+            Ok(owned) => Ok(owned.split()),
+            Err(link) => Err(Shared { link }),
         }
     }
 

@@ -8,7 +8,8 @@ ghost use Rattle.refusal_lines.specs.Refusals as spec;
 use flat_ir::{CheckError, FuncId, NodeId, Program};
 use ir_reader::text::SyntaxError;
 use ir_resolve::ResolveError;
-use name_texts::{put_name, put_place, put_register};
+use ir_tree::printing::push_name;
+use name_texts::{put_place, put_register};
 use std::alloc::{AllocError, Global};
 use value_texts::{put_number, put_text};
 
@@ -69,7 +70,7 @@ fn put_global(text: &mut Vec<u8>, name: &[u8]) -> Result<(), AllocError>
     ensures { OnOk result (text.new.items ≡ text.old.items ++ global_text name.now) }
 {
     put_text(text, "@")?;
-    put_name(text, name)
+    push_name(text, name)
 }
 
 fn unknown_function(alloc: Global, at: u32, name: &[u8]) -> Result<Vec<u8>, AllocError>

@@ -16,12 +16,12 @@ use Rattle.flat_ir.specs.History.{History, Change}
 use Rattle.flat_ir.specs.Machine.{Frame, State, entered}
 use Rattle.flat_ir.specs.Whole.{IsWhole}
 use Rattle.points_to.specs.Within.{IsWithin}
-use Rattle.mod_ref.specs.Changes.{location_of}
+use Rattle.flat_ir.specs.Locations.{location_of, same_site, same_location, lies_in}
 use Rattle.slices.specs.Slice.{Items, Need, IsSlice, itself}
 use Rattle.slices.specs.Nexts.{Ways, AreNexts}
 use Rattle.slices.proofs.Slicing.{facts, goes}
 use Rattle.slice_laws.specs.ResidualRun.{whole, CallRun, Runs, Ends, Breaks, call_goes_on, call_step, call_run, called}
-use Rattle.slice_laws.specs.Simulation.{same_site, same_location, lies_in, Agree, Ended, IsUnbroken, IsSimulated}
+use Rattle.slice_laws.specs.Simulation.{Agree, Ended, IsUnbroken, IsSimulated}
 use Rattle.slice_laws.specs.Moments.{StacksAgree, none as no_frames, both as both_frames, hidden as hidden_frame, HasMoment}
 use Rattle.slice_laws.proofs.Lists.{filter_within}
 use Rattle.slice_laws.proofs.Histories.{is_needed, grew_none, still_agree}

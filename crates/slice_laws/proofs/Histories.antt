@@ -12,7 +12,7 @@ use Rattle.flat_ir.specs.declared.program.ProgramData.{ProgramData}
 use Rattle.flat_ir.specs.History.{History, Change, Write, Alloc, Free, Get, Put, same_object, is_alloc_of, is_free_of, site_of, size_made, size_of, byte_at, position}
 use Rattle.flat_ir.specs.Orderly.{is_made, is_freed}
 use Rattle.flat_ir.specs.Same.{same_object-true}
-use Rattle.mod_ref.specs.Changes.{location_of}
+use Rattle.flat_ir.specs.Locations.{location_of}
 use Rattle.slices.specs.Slice.{Items, Need}
 use Rattle.slice_laws.specs.Simulation.{Agree}
 use Rattle.slice_laws.proofs.Lists.{not_both}

@@ -31,7 +31,8 @@ use Rattle.flat_ir.specs.Whole.{operands_of, results_of, successors_of}
 use Rattle.points_to.specs.Asked.{holder_in}
 use Rattle.points_to.specs.Within.{BaseWithin, PointsWithin}
 use Rattle.points_to.proofs.RunsWithin.{address_within}
-use Rattle.mod_ref.specs.Changes.{ChangesAt, changes, writes, frees, changed_by, written_through, freed_by, is_malloc_site, location_of}
+use Rattle.flat_ir.specs.Locations.{location_of}
+use Rattle.mod_ref.specs.Changes.{ChangesAt, changes, writes, frees, changed_by, written_through, freed_by, is_malloc_site}
 use Rattle.slice_laws.proofs.Lists.{set_apart, first, second, later}
 
 -- a state with other registers, at another node, and with a longer history

@@ -28,7 +28,8 @@ use Rattle.points_to.specs.Points.{PointsTo}
 use Rattle.points_to.specs.Within.{BaseWithin, PointsWithin, FrameWithin, IsWithin, RunWithin}
 use Rattle.points_to.proofs.Containing.{node_reads}
 use Rattle.points_to.proofs.RunsWithin.{address_within, operands_within}
-use Rattle.mod_ref.specs.Changes.{ChangesAt, location_of}
+use Rattle.flat_ir.specs.Locations.{location_of}
+use Rattle.mod_ref.specs.Changes.{ChangesAt}
 use Rattle.slices.specs.Nodes.{read_through, used_alive, reads_input}
 use Rattle.slices.specs.Slice.{Items, Keep, Need, Looks}
 use Rattle.slices.specs.SliceFacts.{SliceFacts, GoesWhereMet}

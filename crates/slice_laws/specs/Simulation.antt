@@ -1,42 +1,22 @@
 -- A slice simulates its call.
-use Rattle.std.specs.Prelude.{◌≡◌, ◌==◌, ◌&&◌, ℕ, Bool, true, false, List, ◌++◌, Option}
+use Rattle.std.specs.Prelude.{◌≡◌, ℕ, Bool, List, ◌++◌, Option}
 use Rattle.std.specs.List.{filter}
 use Rattle.flat_ir.specs.declared.names.CallStep.{CallStep}
 use Rattle.flat_ir.specs.declared.names.FuncId.{FuncId}
 use Rattle.flat_ir.specs.declared.names.Location.{Location}
 use Rattle.flat_ir.specs.declared.names.Location.TheVariants as location
 use Rattle.flat_ir.specs.declared.names.ObjectName.{ObjectName}
-use Rattle.flat_ir.specs.declared.names.Site.{Site}
-use Rattle.flat_ir.specs.declared.names.Site.TheVariants as site
 use Rattle.flat_ir.specs.declared.program.ProgramData.{ProgramData}
 use Rattle.flat_ir.specs.declared.values.ConcreteValue.{ConcreteValue}
 use Rattle.flat_ir.specs.History.{History, Change, site_of, size_of, byte_at, position}
+use Rattle.flat_ir.specs.Locations.{lies_in}
 use Rattle.flat_ir.specs.Orderly.{is_made, is_freed}
 use Rattle.flat_ir.specs.Machine.{State}
 use Rattle.flat_ir.specs.Whole.{IsWhole}
 use Rattle.points_to.specs.Within.{IsWithin}
-use Rattle.mod_ref.specs.Changes.{location_of}
 use Rattle.slices.specs.Slice.{Items, Need, IsSlice}
 use Rattle.slices.specs.Nexts.{Ways, AreNexts}
 use Rattle.slice_laws.specs.ResidualRun.{whole, CallRun, Runs, Ends, Breaks, called, call_run}
-
-abbrev pub same_site : Site → Site → Bool
-same_site (site.Global g) (site.Global h) = g == h
-same_site (site.Node f n) (site.Node g m) = (f.0 == g.0) && (n.0 == m.0)
-same_site (site.Global g) (site.Node f n) = false
-same_site (site.Node f n) (site.Global g) = false
-
-abbrev pub same_location : Location → Location → Bool
-same_location (location.Cells s) (location.Cells t) = same_site s t
-same_location (location.Life s) (location.Life t) = same_site s t
-same_location location.Input location.Input = true
-same_location location.Output location.Output = true
-same_location location.Result location.Result = true
-same_location _ _ = false
-
--- the change lies in the location
-abbrev pub lies_in : Location → Change → Bool
-lies_in l c = same_location l (location_of c)
 
 -- two histories agree on a location: on each byte of the site's objects; on which of them were made, with which sizes, and
 -- which ended; on the place in the input. What was written out, and the result, nothing reads.

@@ -23,7 +23,8 @@ use Rattle.sym_bytes.specs.Byte as byte
 use Rattle.sym_bytes.specs.Byte.{SymByte}
 use Rattle.sym_bytes.specs.Entry.{Entry}
 use Rattle.sym_bytes.specs.Entry as entry
-use Rattle.log_laws.specs.Logs.{Did, Marked, Log, seen_at, cells_of, is_alloc_of}
+use Rattle.flat_ir.specs.Locations.{cells_of}
+use Rattle.log_laws.specs.Logs.{Did, Marked, Log, seen_at, is_alloc_of}
 use Rattle.log_laws.specs.Needs.{constants_of, offsets_from, left_behind, is_covered, need_bytes, is_freed, need_life_back, need_life, need_all, need}
 use Rattle.log_laws.specs.Reading.{Candidate, Chain, surely, or_else, candidates_of, sure_if, sure_of, open_if, open_of, chained, chain_through, initial_byte, zero_byte, byte_or_zero, initial_bytes, is_zero, scan_step, scanned, initial_at, chain_of, term_of, undecided, answer_of, read_byte}
 use Rattle.state_laws.specs.Skipless.{IsFirmByte, AreFirmBytes, IsFirmEntry, IsFirmLog}

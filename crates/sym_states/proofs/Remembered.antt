@@ -23,7 +23,8 @@ use Rattle.sym_bytes.specs.Byte.{SymByte}
 use Rattle.sym_bytes.specs.Entry as entry
 use Rattle.sym_bytes.specs.Entry.{Entry}
 use Rattle.sym_bytes.specs.Joining.{int_of}
-use Rattle.log_laws.specs.Logs.{Fill, Did, Marked, Log, filled, seen_at, cells_of, life_of, is_free_of, newest_size, alive_with, life, puts_in, output, same_location}
+use Rattle.flat_ir.specs.Locations.{cells_of, life_of, same_location}
+use Rattle.log_laws.specs.Logs.{Fill, Did, Marked, Log, filled, seen_at, is_free_of, newest_size, alive_with, life, puts_in, output}
 use Rattle.log_laws.specs.Reading.{Candidate, Chain, surely, or_else, candidates_of, sure_if, sure_of, open_if, open_of, chained, chain_through, initial_byte, byte_or_zero, init_of, initial_bytes, is_zero, scan_step, scanned, initial_at, chain_of, choose, term_of, undecided, answer_of, read_byte}
 use Rattle.leaves.specs.Fitting.{IsTermOf, AreTermsOf, ByteFits, BytesFit, EntriesFit}
 use Rattle.sym_states.specs.Fitting.{FillsFit, LogFits, InitFits, InitsFit, GlobalsFit, LivingFits, ReadFits}

@@ -10,19 +10,11 @@ use Rattle.ir_tree.specs.declared.constants.ConstIndex.{ConstIndex}
 use Rattle.ir_tree.specs.declared.constants.GepLevel.{GepLevel}
 use Rattle.ir_tree.specs.Pages.{comma_before}
 use Rattle.ir_tree.specs.Spelling.{opening, closing, others, separated, type_tokens, const_index_tokens, gep_tokens}
-use Rattle.ir_tree.specs.Texts.{integer_text, width_text, local_text, escaped}
+use Rattle.ir_tree.specs.Texts.{integer_text, width_text, local_text}
 use Rattle.ir_tree.proofs.Spelled.{int_tokens, ptr_tokens, array_tokens, struct_tokens, named_tokens}
-use Rattle.ir_tree.proofs.Writing.{escaped_append}
 
 abbrev pub Tokens : Type 0
 Tokens = List (List ℕ)
-
--- ---- texts
-
-pub escaped_more : (text before after : List ℕ) (bytes : List ℕ) (i : ℕ) → i < length bytes → before ≡ text ++ escaped (take i bytes) → after ≡ before ++ escaped (get_or bytes i 0 ∷ []) → after ≡ text ++ escaped (take (i + 1) bytes)
-escaped_more text before after bytes i lt e d =
-    d ∙ ap (λ (x : List ℕ). x ++ escaped (get_or bytes i 0 ∷ [])) e ∙ append_assoc text (escaped (take i bytes)) (escaped (get_or bytes i 0 ∷ []))
-    ∙ ap (λ (x : List ℕ). text ++ x) (sym (escaped_append (take i bytes) (get_or bytes i 0 ∷ [])) ∙ ap escaped (sym (take_more bytes i 0 lt)))
 
 -- ---- types
 

@@ -7,60 +7,12 @@ ghost use Rattle.ir_tree.specs.Spelling as spelling;
 ghost use Rattle.ir_tree.specs.Texts as texts;
 ghost use Rattle.ir_programs.specs.Texts.{same_all as all_same};
 
-use ir_lexer::classes::{is_number, is_plain_name};
 use ir_programs::is_same;
 use ir_tree::constants::{ConstIndex, GepLevel, Integer, Value, ValueForm};
+use ir_tree::printing::push_name;
 use ir_tree::types::{IrType, Name};
 use plain_list::Sequence;
 use std::alloc::{AllocError, Global};
-
-/// A hexadecimal digit, with upper-case letters.
-fn hex_digit(digit: u8) -> u8
-    requires { digit < 16 }
-    ensures { result ≡ texts.hex_digit digit }
-{
-    if digit < 10 { 48 + digit } else { 55 + digit }
-}
-
-/// Whether a byte of a quoted text stands by its digits.
-fn is_escaped(byte: u8) -> bool
-    ensures { result ≡ texts.is_escaped byte }
-{
-    byte < 32 || byte > 126 || byte == b'"' || byte == b'\\'
-}
-
-/// Puts a byte of a quoted text.
-fn push_escaped(text: &mut Vec<u8>, byte: u8) -> Result<(), AllocError>
-    ensures { IfOk result (λ u. text.new.items ≡ text.old.items ++ texts.escaped (byte ∷ [])) }
-{
-    if is_escaped(byte) {
-        return text.extend_from_slice(&[b'\\', hex_digit(byte / 16), hex_digit(byte % 16)]);
-    }
-    text.push(byte)?;
-    Ok(())
-}
-
-/// Puts a quoted text.
-fn push_quoted(text: &mut Vec<u8>, bytes: &[u8]) -> Result<(), AllocError>
-    ensures { IfOk result (λ u. text.new.items ≡ text.old.items ++ texts.quoted bytes.now) }
-{
-    text.push(b'"')?;
-    for byte in bytes {
-        push_escaped(text, *byte)?;
-    }
-    text.push(b'"')?;
-    Ok(())
-}
-
-/// Puts a name, with quotes if it needs them.
-fn push_name(text: &mut Vec<u8>, name: &[u8]) -> Result<(), AllocError>
-    ensures { IfOk result (λ u. text.new.items ≡ text.old.items ++ texts.name_text name.now) }
-{
-    if is_plain_name(name) || is_number(name) {
-        return text.extend_from_slice(name);
-    }
-    push_quoted(text, name)
-}
 
 /// The token of a name behind its mark.
 fn name_token(alloc: Global, mark: u8, name: &[u8]) -> Result<Sequence<u8>, AllocError>

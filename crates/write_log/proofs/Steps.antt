@@ -13,7 +13,8 @@ use Rattle.sym_bytes.specs.Answers.{Dead}
 use Rattle.sym_bytes.specs.Entry as entry
 use Rattle.sym_bytes.specs.Entry.{Entry}
 use Rattle.terms.specs.Tree.{Tree}
-use Rattle.log_laws.specs.Logs.{Item, Did, Marked, Log, seen_at, gets_in, position, puts_in, output, newest_size, is_free_of, is_alloc_of, alive_with, cut, fill, entries_in, entries_since, lies_in, cells_of, life_of, is_open}
+use Rattle.flat_ir.specs.Locations.{cells_of, life_of}
+use Rattle.log_laws.specs.Logs.{Item, Did, Marked, Log, seen_at, gets_in, position, puts_in, output, newest_size, is_free_of, is_alloc_of, alive_with, cut, fill, entries_in, entries_since, lies_in, is_open}
 use Rattle.log_laws.specs.Needs.{is_covered, left_behind, left_behind_all, recovered_at, entries_of, call_if, need_bytes, need_life_back, need_all}
 use Rattle.write_log.specs.Walks.{seen_in, is_mark_of, with_fill, open_call, get_of, put_of, size_in, or_size, life_from}
 

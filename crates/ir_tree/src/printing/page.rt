@@ -7,8 +7,8 @@ ghost use Rattle.ir_tree.specs.Printing.{plain, line_text};
 ghost use Rattle.ir_tree.specs.Pages.{Written, begun, with_token, after, comma_before, opened, extended};
 
 use crate::constants::Integer;
+use crate::printing::names::{push_name, push_quoted};
 use crate::types::is_same;
-use ir_lexer::classes::{is_number, is_plain_name};
 use std::alloc::{AllocError, Global};
 use std::marker::Model;
 
@@ -43,21 +43,6 @@ fn holds_close(token: &[u8]) -> bool
     ensures { result ≡ texts.no_space_behind token.now }
 {
     is_same(token, b"(") || is_same(token, b"[")
-}
-
-/// A hexadecimal digit, with upper-case letters.
-fn hex_digit(digit: u8) -> u8
-    requires { digit < 16 }
-    ensures { result ≡ texts.hex_digit digit }
-{
-    if digit < 10 { 48 + digit } else { 55 + digit }
-}
-
-/// Whether a byte of a quoted text stands as it is.
-fn is_escaped(byte: u8) -> bool
-    ensures { result ≡ texts.is_escaped byte }
-{
-    byte < 32 || byte > 126 || byte == b'"' || byte == b'\\'
 }
 
 impl Page {
@@ -152,35 +137,18 @@ impl Page {
         self.text.extend_from_slice(bytes)
     }
 
-    /// A byte of a quoted text.
-    fn extend_escaped(&mut self, byte: u8) -> Result<(), AllocError>
-        ensures { OnOk result (self.new ≡ extended self.old (texts.escaped (byte ∷ []))) }
-    {
-        if is_escaped(byte) {
-            return self.extend(&[b'\\', hex_digit(byte / 16), hex_digit(byte % 16)]);
-        }
-        self.extend(&[byte])
-    }
-
     /// A quoted text.
     fn extend_quoted(&mut self, bytes: &[u8]) -> Result<(), AllocError>
         ensures { OnOk result (self.new ≡ extended self.old (texts.quoted bytes.now)) }
     {
-        self.extend(b"\"")?;
-        for byte in bytes {
-            self.extend_escaped(*byte)?;
-        }
-        self.extend(b"\"")
+        push_quoted(&mut self.text, bytes)
     }
 
     /// A name, with quotes if it needs them.
     fn extend_name(&mut self, name: &[u8]) -> Result<(), AllocError>
         ensures { OnOk result (self.new ≡ extended self.old (texts.name_text name.now)) }
     {
-        if is_plain_name(name) || is_number(name) {
-            return self.extend(name);
-        }
-        self.extend_quoted(name)
+        push_name(&mut self.text, name)
     }
 
     /// Puts the name of a global or a function.

@@ -1,5 +1,6 @@
 use Rattle.std.proofs.Common.{◌≡◌, length}
-use Rattle.log_laws.specs.Logs.{cells_of, seen_at}
+use Rattle.flat_ir.specs.Locations.{cells_of}
+use Rattle.log_laws.specs.Logs.{seen_at}
 use Rattle.log_laws.specs.Reading as reading
 use Rattle.log_laws.specs.Reading.{Chain}
 use Rattle.write_log.proofs.reading.look_in_log.Given as goal
