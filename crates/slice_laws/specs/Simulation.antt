@@ -1,5 +1,5 @@
 -- A slice simulates its call.
-use Rattle.std.specs.Prelude.{◌≡◌, ℕ, Bool, List, ◌++◌, Option}
+use Rattle.std.specs.Prelude.{◌≡◌, ℕ, true, List, ◌++◌, Option}
 use Rattle.std.specs.List.{filter}
 use Rattle.flat_ir.specs.declared.names.CallStep.{CallStep}
 use Rattle.flat_ir.specs.declared.names.FuncId.{FuncId}
