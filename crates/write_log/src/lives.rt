@@ -3,6 +3,7 @@ ghost use Rattle.std.specs.Prelude.{◌≡◌, IfOk, slice_get};
 ghost use Rattle.std.specs.List.{list_any};
 ghost use Rattle.std.specs.Option.{option_copied};
 ghost use Rattle.flat_ir.specs.History as history;
+ghost use Rattle.flat_ir.specs.Locations as locations;
 ghost use Rattle.log_laws.specs.Logs as log;
 ghost use Rattle.sym_bytes.specs.ShownAnswers.{living_of};
 ghost use Rattle.write_log.specs.Walks.{size_in, or_size};
@@ -122,7 +123,7 @@ pub(crate) fn life_of_made<H: Home>(
     trail: &Trail<H>,
     name: &ObjectName,
 ) -> Result<LifeOf<H>, AllocError>
-    ensures { IfOk result (λ l. living_of l ≡ log.life_among name.now (log.seen_at (log.life_of name.now) trail.now)) }
+    ensures { IfOk result (λ l. living_of l ≡ log.life_among name.now (log.seen_at (locations.life_of name.now) trail.now)) }
 {
     let at = Location::Life(site_of(name));
     let mut size = None;

@@ -2,6 +2,7 @@
 ghost use Rattle.std.specs.Prelude.{◌≡◌, ◌++◌, reverse, IfOk, OnOk};
 ghost use Rattle.std.specs.List.{list_any};
 ghost use Rattle.sym_bytes.specs.ShownAnswers.{want_of};
+ghost use Rattle.flat_ir.specs.Locations as locations;
 ghost use Rattle.log_laws.specs.Logs as log;
 ghost use Rattle.log_laws.specs.Needs as needs;
 ghost use Rattle.write_log.specs.Memory.{IsWanted};
@@ -21,7 +22,7 @@ use sym_bytes::{CallId, Wanted};
 
 // Whether one of the locations is this one.
 fn is_among(at: Location, mods: &[Location]) -> bool
-    ensures { result ≡ list_any (log.same_location at) mods.now }
+    ensures { result ≡ list_any (locations.same_location at) mods.now }
 {
     for other in mods {
         if same_location(at, *other) {

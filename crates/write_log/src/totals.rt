@@ -1,5 +1,6 @@
 //! What a log read and wrote, and its entries in a location.
 ghost use Rattle.std.specs.Prelude.{◌≡◌, ◌+◌, ◌^◌, ◌-◌, ◌++◌, ◌∷◌, [], min, IfOk, OnOk};
+ghost use Rattle.flat_ir.specs.Locations as locations;
 ghost use Rattle.log_laws.specs.Logs as log;
 ghost use Rattle.std.specs.Option.{option_copied};
 ghost use Rattle.write_log.specs.Walks.{seen_in, get_of, put_of};
@@ -27,7 +28,7 @@ pub(crate) fn site_of(name: &ObjectName) -> Site
 }
 
 fn same_site(a: Site, b: Site) -> bool
-    ensures { result ≡ log.same_site a b }
+    ensures { result ≡ locations.same_site a b }
 {
     match (a, b) {
         (Site::Global(g), Site::Global(h)) => g == h,
@@ -37,7 +38,7 @@ fn same_site(a: Site, b: Site) -> bool
 }
 
 pub(crate) fn same_location(a: Location, b: Location) -> bool
-    ensures { result ≡ log.same_location a b }
+    ensures { result ≡ locations.same_location a b }
 {
     match (a, b) {
         (Location::Cells(s), Location::Cells(t)) | (Location::Life(s), Location::Life(t)) => {

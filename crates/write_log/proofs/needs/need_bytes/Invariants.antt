@@ -1,10 +1,10 @@
 use Rattle.std.proofs.Common.{◌≡◌, ◌++◌, length, reverse}
 use Rattle.log_laws.specs.Needs as needs
-use Rattle.log_laws.specs.Logs as log
+use Rattle.flat_ir.specs.Locations as locations
 use Rattle.write_log.proofs.needs.need_bytes.Given as goal
 
 abbrev pub invariant-loop-item : goal.invariant-loop-item
-invariant-loop-item g l = (l.at ≡ log.cells_of l.name) × (needs.need_bytes l.name l.wanted l.left ++ reverse l.calls.items ≡ needs.need_bytes l.name l.fn.wanted l.trail)
+invariant-loop-item g l = (l.at ≡ locations.cells_of l.name) × (needs.need_bytes l.name l.wanted l.left ++ reverse l.calls.items ≡ needs.need_bytes l.name l.fn.wanted l.trail)
 
 abbrev pub decreases-loop-item : goal.decreases-loop-item
 decreases-loop-item g l = length l.left
