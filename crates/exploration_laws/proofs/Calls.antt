@@ -60,7 +60,7 @@ below-by-one : (n k m : ℕ) → n < (k + 1) + m → n < k + suc m
 below-by-one n k m h = omega (arith, h)
 
 -- the number of a snapshot is below the next one
-abbrev IsBelowIf : ℕ → Option Snapshot → Type 0
+abbrev pub IsBelowIf : ℕ → Option Snapshot → Type 0
 IsBelowIf bound None = Unit {0}
 IsBelowIf bound (Some s) = s.call.0 < bound
 
@@ -68,7 +68,7 @@ below-if : (k m : ℕ) (o : Option Snapshot) → IsBelowIf ((k + 1) + m) o → I
 below-if k m None h = tt
 below-if k m (Some s) h = below-by-one s.call.0 k m h
 
-snapshot-below : (mods : List (List Location)) (k i : ℕ) (shots : List Snapshot) → NumberedFrom k (skips_of mods shots) → IsBelowIf (k + length shots) (slice_get shots i)
+pub snapshot-below : (mods : List (List Location)) (k i : ℕ) (shots : List Snapshot) → NumberedFrom k (skips_of mods shots) → IsBelowIf (k + length shots) (slice_get shots i)
 snapshot-below mods k i [] h = tt
 snapshot-below mods k zero (s ∷ shots) h = numbered-below s.call.0 k (length shots) h.0
 snapshot-below mods k (suc i) (s ∷ shots) h = below-if k (length shots) (slice_get shots i) (snapshot-below mods (k + 1) i shots h.1)
@@ -102,7 +102,7 @@ skip-if mods false t s h = refl
 recovered-skip : (mods : List (List Location)) (n : Needed) (v : Option SymValue) (s : Snapshot) → skip_of mods (has_recovered n v s) ≡ skip_of mods s
 recovered-skip mods n v s = skip-if mods (same_call n.call s.call) (record s { recovered = s.recovered ++ n.at ∷ []; result = elim n.at [ location.Result ↦ v | _ ↦ s.result ] }) s refl
 
-recovered-skips : (mods : List (List Location)) (n : Needed) (v : Option SymValue) (shots : List Snapshot) → skips_of mods (map (has_recovered n v) shots) ≡ skips_of mods shots
+pub recovered-skips : (mods : List (List Location)) (n : Needed) (v : Option SymValue) (shots : List Snapshot) → skips_of mods (map (has_recovered n v) shots) ≡ skips_of mods shots
 recovered-skips mods n v [] = refl
 recovered-skips mods n v (s ∷ shots) =
     ap (λ t. t ∷ skips_of mods (map (has_recovered n v) shots)) (recovered-skip mods n v s) ∙ ap (λ ss. skip_of mods s ∷ ss) (recovered-skips mods n v shots)
@@ -203,14 +203,14 @@ module _ (mods : List (List Location)) where
   as-many : (log : Log) (shots : List Snapshot) → AreKept mods log shots → length (marks_of log) ≡ length shots
   as-many log shots h = ap (λ ms. length ms) h.marked ∙ length-map shots (skip_of mods)
 
-  cut-kept : (call : CallId) (log : Log) (shots : List Snapshot) → call.0 < 1 + length shots → AreKept mods log shots → AreKept mods (cut call log) (before_call call shots)
+  pub cut-kept : (call : CallId) (log : Log) (shots : List Snapshot) → call.0 < 1 + length shots → AreKept mods log shots → AreKept mods (cut call log) (before_call call shots)
   cut-kept call log shots low h =
       let numbered = marks-numbered log shots h in
       let below = subst (λ n. call.0 < 1 + n) (sym (as-many log shots h)) low in
       let is = marks-cut call log numbered below ∙ ap (filter (is-before call)) h.marked ∙ sym (before-skips mods call shots) in
       record { numbered = subst (NumberedFrom 1) is (numbered-cut call log numbered); marked = is }
 
-  filled-kept : (n : Needed) (es : List Entry) (v : Option SymValue) (log : Log) (shots : List Snapshot) → AreKept mods log shots → AreKept mods (fill n.call n.at es log) (map (has_recovered n v) shots)
+  pub filled-kept : (n : Needed) (es : List Entry) (v : Option SymValue) (log : Log) (shots : List Snapshot) → AreKept mods log shots → AreKept mods (fill n.call n.at es log) (map (has_recovered n v) shots)
   filled-kept n es v log shots h =
       let same = sym (recovered-skips mods n v shots) in
       record { numbered = subst (NumberedFrom 1) same h.numbered; marked = filled-marks n.call n.at es log ∙ h.marked ∙ same }
@@ -220,7 +220,7 @@ module _ (mods : List (List Location)) where
 next-number : (n m : ℕ) → m ≡ n → n + 1 ≡ 1 + m
 next-number n m h = omega (arith, h)
 
-skip-kept : (c : Context) (f : FuncId) (args : List SymValue) (s : State) → CallsAreKept c.mods s → AreKept c.mods (Marked (next_call s) (mods_of c f) [] ∷ s.memory.log) (s.snapshots ++ snapshot_of f args s ∷ [])
+pub skip-kept : (c : Context) (f : FuncId) (args : List SymValue) (s : State) → CallsAreKept c.mods s → AreKept c.mods (Marked (next_call s) (mods_of c f) [] ∷ s.memory.log) (s.snapshots ++ snapshot_of f args s ∷ [])
 skip-kept c f args s h =
     let both = sym (map-append (skip_of c.mods) s.snapshots (snapshot_of f args s ∷ [])) in
     record {

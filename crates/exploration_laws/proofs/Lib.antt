@@ -7,3 +7,8 @@ pub mod Existence
 pub mod Cuts
 pub mod Open
 pub mod Calls
+pub mod NamedValues
+pub mod NamedLogs
+pub mod NamedCalls
+pub mod NamedSteps
+pub mod NamedMerges

@@ -5,3 +5,4 @@ pub mod Exist
 pub mod Cuts
 pub mod Open
 pub mod Calls
+pub mod Pending

@@ -5,6 +5,7 @@ ghost use Rattle.exploration_laws.specs.Cuts.{CutsStand};
 ghost use Rattle.exploration_laws.specs.Falls.{AttemptsFall, RootsFall, MergesFall};
 ghost use Rattle.exploration_laws.specs.Has.{AttemptsHave, RootsHave, MergesHave, EvaluationsHave};
 ghost use Rattle.exploration_laws.specs.Open.{NeedsAreOpen, NeedsRise};
+ghost use Rattle.exploration_laws.specs.Pending.{FirstsName, AttemptsName, RootsName, MergesName, EvaluationsName, ValuesNeed, BytesNeed, AttemptsNeed};
 ghost use Rattle.exploration_laws.specs.Exist.{AnswersAreReached, EvaluationsExist, ExplorationsExist};
 
 /// The condition of what an attempt, a root or a merge gives begins with the conjuncts of the state that gave it, and so does that
@@ -61,4 +62,23 @@ pub fn calls_are_kept()
     ensures roots { RootsKeepCalls }
     ensures merges { MergesKeepCalls }
     ensures needs { NeedsAreCalls }
+{}
+
+/// Each pending result in a state names a call that was skipped before, with the type of what its function returns: in registers, in
+/// the log, where older than the marks above it, among the arguments and results of skipped calls, and among the loads. This is kept by
+/// whatever an exploration reaches, in recoveries and through merges too; and what a recovery gives names older calls than its own.
+pub fn pending_results_name_earlier_calls()
+    ensures first { FirstsName }
+    ensures attempts { AttemptsName }
+    ensures roots { RootsName }
+    ensures merges { MergesName }
+    ensures leaves { EvaluationsName }
+{}
+
+/// What is needed for operands, for bytes that are loaded and by an attempt are skipped calls, each with a location that its mark may
+/// have changed and has no fill for, or with its result, which isn't recovered; and no call is needed twice with one location.
+pub fn needs_name_skipped_calls()
+    ensures values { ValuesNeed }
+    ensures bytes { BytesNeed }
+    ensures attempts { AttemptsNeed }
 {}
