@@ -64,9 +64,13 @@ module _ (call : CallId) (ks more : List Kind) (within : (d : CallId) (t : RegTy
 
   before-if : (s : Snapshot) (shots : List Snapshot) (b : Bool) → nat_lt s.call.0 call.0 ≡ b → SnapshotNames ks s → Each (SnapshotNames more) shots → Each (SnapshotNames more) (cond b (s ∷ shots) shots)
   before-if s shots true is h k =
-      let wider = own-more s.call.0 (ltb-true s.call.0 call.0 is) in
-      ((each-more (ValueNames (Earlier ks s.call.0)) (ValueNames (Earlier more s.call.0)) (value-more (Earlier ks s.call.0) (Earlier more s.call.0) wider) s.args h.0,
-      value-more-if (Earlier ks s.call.0) (Earlier more s.call.0) wider s.result h.1), k)
+      let wider = own-more s.call.0 (ltb-true s.call.0 call.0 is) in (
+        (
+          each-more (ValueNames (Earlier ks s.call.0)) (ValueNames (Earlier more s.call.0)) (value-more (Earlier ks s.call.0) (Earlier more s.call.0) wider) s.args h.0,
+          value-more-if (Earlier ks s.call.0) (Earlier more s.call.0) wider s.result h.1,
+        ),
+        k,
+      )
   before-if s shots false is h k = k
 
   before-names : (shots : List Snapshot) → Each (SnapshotNames ks) shots → Each (SnapshotNames more) (before_call call shots)
@@ -82,7 +86,7 @@ module _ (e : Setting) (s : State) (named : PendingsAreNamed e.program e.mods s)
       let front = before_call shot.call s.snapshots in
       let is = kinds-before e.program shot.call s.snapshots in
       let among : (d : CallId) (t : RegType) → d.0 < shot.call.0 → Returns all-kinds d t → Returns (kinds_of e.program front) d t
-          = λ d t less r. subst (λ xs. Returns xs d t) (sym is) (returns-older shot.call all-kinds d t less r) in
+      = λ d t less r. subst (λ xs. Returns xs d t) (sym is) (returns-older shot.call all-kinds d t less r) in
       let own : (d : CallId) (t : RegType) → Earlier all-kinds shot.call.0 d t → Earlier (kinds_of e.program front) shot.call.0 d t = λ d t names. (names.0, among d t names.0 names.1) in
       let P = Earlier (kinds_of e.program front) shot.call.0 in
       let rest = drop (length shot.args) (regs_of (func_at e.program shot.func)) in
@@ -101,7 +105,7 @@ module _ (e : Setting) (s : State) (named : PendingsAreNamed e.program e.mods s)
       let low = subst (IsBelowIf (1 + length s.snapshots)) h.found (snapshot-below e.mods 1 (n.call.0 - 1) s.snapshots named.calls.numbered) in
       let own = each-at (SnapshotNames all-kinds) s.snapshots (n.call.0 - 1) shot h.found named.snapshots in
       let same : recovery_in e.program (recovery_of e s n.at shot).target (before_call shot.call s.snapshots) ≡ recovery_for e.program s n
-          = ap (λ xs. Some (record { kinds = xs; call = shot.call })) (kinds-before e.program shot.call s.snapshots) ∙ ap (λ k. Some (record { kinds = older (record { 0 = k }) all-kinds; call = record { 0 = k } })) h.is in
+      = ap (λ xs. Some (record { kinds = xs; call = shot.call })) (kinds-before e.program shot.call s.snapshots) ∙ ap (λ k. Some (record { kinds = older (record { 0 = k }) all-kinds; call = record { 0 = k } })) h.is in
       subst (λ o. ChildNames e.program e.mods (recovery_for e.program s n) (recovery_if e s n.at o)) (sym h.found) (recovery-names n.at shot low own, same)
 
 pub roots-name : RootsName
@@ -222,9 +226,9 @@ module _ (p : ProgramData) (mods : List (List Location)) (r : Option Recovery) (
       let bound = bound_of s.target s.snapshots in
       let named = h.0.0 in
       let among : (d : CallId) (t : RegType) → Earlier (older n.call ks) n.call.0 d t → Earlier old n.call.0 d t
-          = λ d t names. (names.0, subst (λ xs. Returns xs d t) (sym h.1) (returns-all n.call ks d t names.1)) in
+      = λ d t names. (names.0, subst (λ xs. Returns xs d t) (sym h.1) (returns-all n.call ks d t names.1)) in
       let still : (F : List Kind → ℕ → Type 0) → F old bound → F (kinds_of p shots) (bound_of s.target shots)
-          = λ F f. subst (F (kinds_of p shots)) (sym (bound-recovered s.target (has_recovered n v) s.snapshots)) (subst (λ xs. F xs bound) (sym (kinds-recovered p n v s.snapshots)) f) in
+      = λ F f. subst (F (kinds_of p shots)) (sym (bound-recovered s.target (has_recovered n v) s.snapshots)) (subst (λ xs. F xs bound) (sym (kinds-recovered p n v s.snapshots)) f) in
       record {
         calls = filled-kept mods n entries v s.memory.log s.snapshots named.calls;
         frame = still (λ xs b. FrameNames (Earlier xs b) s.frame) named.frame;

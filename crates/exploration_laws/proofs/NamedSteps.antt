@@ -70,9 +70,10 @@ frame-more P Q more f h = each-more (ValueNamesIf P) (ValueNamesIf Q) (value-mor
 
 snapshot-more : (ks more : List Kind) → ((c : CallId) (t : RegType) → Returns ks c t → Returns more c t) → (s : Snapshot) → SnapshotNames ks s → SnapshotNames more s
 snapshot-more ks more within s h =
-    let wider : (c : CallId) (t : RegType) → Earlier ks s.call.0 c t → Earlier more s.call.0 c t = λ c t names. (names.0, within c t names.1) in
-    (each-more (ValueNames (Earlier ks s.call.0)) (ValueNames (Earlier more s.call.0)) (value-more (Earlier ks s.call.0) (Earlier more s.call.0) wider) s.args h.0,
-    value-more-if (Earlier ks s.call.0) (Earlier more s.call.0) wider s.result h.1)
+    let wider : (c : CallId) (t : RegType) → Earlier ks s.call.0 c t → Earlier more s.call.0 c t = λ c t names. (names.0, within c t names.1) in (
+      each-more (ValueNames (Earlier ks s.call.0)) (ValueNames (Earlier more s.call.0)) (value-more (Earlier ks s.call.0) (Earlier more s.call.0) wider) s.args h.0,
+      value-more-if (Earlier ks s.call.0) (Earlier more s.call.0) wider s.result h.1,
+    )
 
 set_if-names : (P : CallId → RegType → Type 0) (r : Option RegId) (v : Option SymValue) (f : Frame) → ValueNamesIf P v → FrameNames P f → FrameNames P (set_if r v f)
 set_if-names P None v f h k = k
@@ -112,13 +113,14 @@ module _ (c : Context) (f : FuncId) (args : List SymValue) (s : State) where
 
   result-names : (o : Option RegType) → result_type (func_at c.program f) ≡ o → ValueNamesIf Behind (option_map (Pending (next_call s)) o)
   result-names None is = tt
-  result-names (Some t) is =
-      (next-less (length s.snapshots) (length shots-behind) one-longer,
-      subst (λ ks. Returns ks (next_call s) t) (sym kinds-both) (returns-last (kinds_of c.program s.snapshots) (kind_of c.program (snapshot_of f args s)) (next_call s) t refl is))
+  result-names (Some t) is = (
+    next-less (length s.snapshots) (length shots-behind) one-longer,
+    subst (λ ks. Returns ks (next_call s) t) (sym kinds-both) (returns-last (kinds_of c.program s.snapshots) (kind_of c.program (snapshot_of f args s)) (next_call s) t refl is),
+  )
 
   skipped-names : (result : Option RegId) → AreNamed c.program c.mods s.frame s.callers s.memory.log s.snapshots s.path None → Each (ValueNames Before) args
       → AreNamed c.program c.mods (moved c 0 (set_if result (option_map (Pending (next_call s)) (result_type (func_at c.program f))) (counted s.frame))) s.callers
-        (Marked (next_call s) (mods_of c f) [] ∷ s.memory.log) shots-behind s.path None
+      (Marked (next_call s) (mods_of c f) [] ∷ s.memory.log) shots-behind s.path None
   skipped-names result h g = record {
     calls = skip-kept c f args s h.calls;
     frame = set_if-names Behind result (option_map (Pending (next_call s)) (result_type (func_at c.program f))) (counted s.frame) (result-names (result_type (func_at c.program f)) refl) (frame-more Before Behind still s.frame h.frame);
@@ -178,9 +180,10 @@ module _ (c : Context) (shots : List Snapshot) (target : Option Target) where
   Gives a = StepNames c.program c.mods (recovery_in c.program target shots) a
 
   pub out : (s : State) → Stands s → StateNames c.program c.mods (recovery_in c.program target shots) s
-  out s h =
-      (subst (λ ss. AreNamed c.program c.mods s.frame s.callers s.memory.log ss s.path s.target) (sym h.1.0) (subst (λ o. AreNamed c.program c.mods s.frame s.callers s.memory.log shots s.path o) (sym h.1.1) h.0),
-      ap (λ ss. recovery_in c.program s.target ss) h.1.0 ∙ ap (λ o. recovery_in c.program o shots) h.1.1)
+  out s h = (
+    subst (λ ss. AreNamed c.program c.mods s.frame s.callers s.memory.log ss s.path s.target) (sym h.1.0) (subst (λ o. AreNamed c.program c.mods s.frame s.callers s.memory.log shots s.path o) (sym h.1.1) h.0),
+    ap (λ ss. recovery_in c.program s.target ss) h.1.0 ∙ ap (λ o. recovery_in c.program o shots) h.1.1,
+  )
 
   framed : (f : Frame) (s : State) → FrameNames Own f → Stands s → Stands (in_frame f s)
   framed f s h k = (record { calls = k.0.calls; frame = h; callers = k.0.callers; log = k.0.log; snapshots = k.0.snapshots; path = k.0.path }, k.1)
@@ -467,15 +470,17 @@ module _ (c : Context) (shots : List Snapshot) (target : Option Target) where
   enters-names : (f : FuncId) (args : List SymValue) (s : State) → Each (ValueNames Own) args → Stands s → Gives (enters c f args s)
   enters-names f args s k h =
       let rest = drop (length args) (regs_of (func_at c.program f)) in
-      out (record s { frame = entered c.program c.residual f args (name_below s.frame); callers = counted s.frame ∷ s.callers })
-      (record {
-        calls = h.0.calls;
-        frame = args-name Own args (map (λ r. None) rest) k (unset-name Own rest);
-        callers = (h.0.frame, h.0.callers);
-        log = h.0.log;
-        snapshots = h.0.snapshots;
-        path = h.0.path;
-      }, h.1)
+      out (record s { frame = entered c.program c.residual f args (name_below s.frame); callers = counted s.frame ∷ s.callers }) (
+        record {
+          calls = h.0.calls;
+          frame = args-name Own args (map (λ r. None) rest) k (unset-name Own rest);
+          callers = (h.0.frame, h.0.callers);
+          log = h.0.log;
+          snapshots = h.0.snapshots;
+          path = h.0.path;
+        },
+        h.1,
+      )
 
   skips-names : (f : FuncId) (args : List SymValue) (result : Option RegId) (s : State) → None ≡ target → Each (ValueNames Own) args → Stands s → Gives (skips c f args result s)
   skips-names f args result s none k h =
@@ -483,10 +488,11 @@ module _ (c : Context) (shots : List Snapshot) (target : Option Target) where
       let own = subst (λ o. Each (ValueNames (Earlier (kinds_of c.program shots) (bound_of o shots))) args) (sym none) k in
       let before = subst (λ ss. Each (ValueNames (Earlier (kinds_of c.program ss) (length ss + 1))) args) (sym h.1.0) own in
       let named = subst (λ o. AreNamed c.program c.mods s.frame s.callers s.memory.log s.snapshots s.path o) outside (out s h).0 in
-      let more = s.snapshots ++ snapshot_of f args s ∷ [] in
-      (subst (λ o. AreNamed c.program c.mods (moved c 0 (set_if result (option_map (Pending (next_call s)) (result_type (func_at c.program f))) (counted s.frame))) s.callers (Marked (next_call s) (mods_of c f) [] ∷ s.memory.log) more s.path o)
-      (sym outside) (skipped-names c f args s result named before),
-      ap (λ o. recovery_in c.program o more) outside ∙ ap (λ o. recovery_in c.program o shots) none)
+      let more = s.snapshots ++ snapshot_of f args s ∷ [] in (
+        subst (λ o. AreNamed c.program c.mods (moved c 0 (set_if result (option_map (Pending (next_call s)) (result_type (func_at c.program f))) (counted s.frame))) s.callers (Marked (next_call s) (mods_of c f) [] ∷ s.memory.log) more s.path o)
+            (sym outside) (skipped-names c f args s result named before),
+        ap (λ o. recovery_in c.program o more) outside ∙ ap (λ o. recovery_in c.program o shots) none,
+      )
 
   call-names : (f : FuncId) (args : List SymValue) (result : Option RegId) (s : State) (o : Option Target) (b : Bool) → o ≡ target → is_skipped c f o ≡ b → Each (ValueNames Own) args → Stands s
       → Gives (elim b [ true ↦ skips c f args result s | false ↦ enters c f args s ])
@@ -505,15 +511,17 @@ module _ (c : Context) (shots : List Snapshot) (target : Option Target) where
   ended-names : (s : State) → Stands s → Stands (ended c s)
   ended-names s h =
       let frees = frees_from s.frame 0 (nodes_of (func_at c.program s.frame.func)) in
-      let named = onto-names Own frees [] (frees_from-names Own s.frame 0 (nodes_of (func_at c.program s.frame.func))) tt in
-      (record {
-        calls = logs-kept c.mods (reverse frees) s.memory.log shots h.0.calls;
-        frame = h.0.frame;
-        callers = h.0.callers;
-        log = done-names (kinds_of c.program shots) (bound_of target shots) (reverse frees) s.memory.log named h.0.log;
-        snapshots = h.0.snapshots;
-        path = h.0.path;
-      }, h.1)
+      let named = onto-names Own frees [] (frees_from-names Own s.frame 0 (nodes_of (func_at c.program s.frame.func))) tt in (
+        record {
+          calls = logs-kept c.mods (reverse frees) s.memory.log shots h.0.calls;
+          frame = h.0.frame;
+          callers = h.0.callers;
+          log = done-names (kinds_of c.program shots) (bound_of target shots) (reverse frees) s.memory.log named h.0.log;
+          snapshots = h.0.snapshots;
+          path = h.0.path;
+        },
+        h.1,
+      )
 
   completes-names : (v : Option SymValue) (s : State) → Stands s → Gives (completes v s)
   completes-names v s h = then_step-names Stands (knows answers.Output s) (completed v) (knows-names answers.Output s h) (λ u g. tt)
@@ -524,10 +532,11 @@ module _ (c : Context) (shots : List Snapshot) (target : Option Target) where
 
   recovers-names : (at : Target) (v : Option SymValue) (s : State) → Some at ≡ target → ValueNamesIf Own v → Stands s → Gives (recovers at v s)
   recovers-names at v s is k h =
-      subst (λ o. DoneNames (recovery_in c.program o shots) (entries_in at.at (take (length s.memory.log - at.length) s.memory.log)) (if_result at.at v)) is
-      (in-names (kinds_of c.program shots) at.call.0 at.at (take (length s.memory.log - at.length) s.memory.log)
-      (take-names (kinds_of c.program shots) at.call.0 (length s.memory.log - at.length) s.memory.log (subst (λ o. LogNames (kinds_of c.program shots) (bound_of o shots) s.memory.log) (sym is) h.0.log)),
-      given-names (Earlier (kinds_of c.program shots) at.call.0) at.at v (subst (λ o. ValueNamesIf (Earlier (kinds_of c.program shots) (bound_of o shots)) v) (sym is) k))
+      subst (λ o. DoneNames (recovery_in c.program o shots) (entries_in at.at (take (length s.memory.log - at.length) s.memory.log)) (if_result at.at v)) is (
+        in-names (kinds_of c.program shots) at.call.0 at.at (take (length s.memory.log - at.length) s.memory.log)
+            (take-names (kinds_of c.program shots) at.call.0 (length s.memory.log - at.length) s.memory.log (subst (λ o. LogNames (kinds_of c.program shots) (bound_of o shots) s.memory.log) (sym is) h.0.log)),
+        given-names (Earlier (kinds_of c.program shots) at.call.0) at.at v (subst (λ o. ValueNamesIf (Earlier (kinds_of c.program shots) (bound_of o shots)) v) (sym is) k),
+      )
 
   ends_first-names : (at : Option Target) (v : Option SymValue) (s : State) → at ≡ target → ValueNamesIf Own v → Stands s → Gives (ends_first at v s)
   ends_first-names None v s is k h = completes-names v s h
@@ -536,15 +545,17 @@ module _ (c : Context) (shots : List Snapshot) (target : Option Target) where
   leaves_to-names : (v : Option SymValue) (callers : List Frame) (s : State) → ValueNamesIf Own v → Each (FrameNames Own) callers → Stands s → Gives (leaves_to c v callers s)
   leaves_to-names v [] s k f h = ends_first-names s.target v s h.1.1 k h
   leaves_to-names v (caller ∷ callers) s k f h =
-      out (record s { frame = resumed c v caller; callers = callers })
-      (record {
-        calls = h.0.calls;
-        frame = set_if-names Own (call_result (code_of c.program caller)) v caller k f.0;
-        callers = f.1;
-        log = h.0.log;
-        snapshots = h.0.snapshots;
-        path = h.0.path;
-      }, h.1)
+      out (record s { frame = resumed c v caller; callers = callers }) (
+        record {
+          calls = h.0.calls;
+          frame = set_if-names Own (call_result (code_of c.program caller)) v caller k f.0;
+          callers = f.1;
+          log = h.0.log;
+          snapshots = h.0.snapshots;
+          path = h.0.path;
+        },
+        h.1,
+      )
 
   ends_frame-names : (v : Option SymValue) (s : State) → ValueNamesIf Own v → Stands s → Gives (ends_frame c v s)
   ends_frame-names v s k h = leaves_to-names v s.callers (ended c s) k h.0.callers (ended-names s h)

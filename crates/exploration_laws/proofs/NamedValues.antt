@@ -134,9 +134,10 @@ lower a b c h k = omega (arith, h, k)
 given-here : (ks : List Kind) (bound : ℕ) (s : Snapshot) (newer : List Snapshot) (v : SymValue) → s.call.0 < bound → Each (λ n. s.call.0 < n.call.0) newer → ValueNames (Earlier ks s.call.0) v → ValueNames (Waits ks bound (s ∷ newer)) v
 given-here ks bound s newer (Int t) low above h = tt
 given-here ks bound s newer (Ptr p) low above h = tt
-given-here ks bound s newer (Pending c t) low above h =
-    ((lower c.0 s.call.0 bound h.0 low, h.1),
-    ((λ is. absurd (other-call c.0 s.call.0 h.0 is)), not-given-above c newer (each-more (λ n. s.call.0 < n.call.0) (λ n. c.0 < n.call.0) (λ n more. lower c.0 s.call.0 n.call.0 h.0 more) newer above)))
+given-here ks bound s newer (Pending c t) low above h = (
+  (lower c.0 s.call.0 bound h.0 low, h.1),
+  ((λ is. absurd (other-call c.0 s.call.0 h.0 is)), not-given-above c newer (each-more (λ n. s.call.0 < n.call.0) (λ n. c.0 < n.call.0) (λ n more. lower c.0 s.call.0 n.call.0 h.0 more) newer above)),
+)
 
 instead-waits : (ks : List Kind) (bound : ℕ) (s : Snapshot) (newer : List Snapshot) (c : CallId) (t : RegType) (o : Option SymValue) → s.result ≡ o → s.call.0 ≡ c.0 → Each (λ n. s.call.0 < n.call.0) newer → ValueNamesIf (Earlier ks s.call.0) o
     → Waits ks bound newer c t → ValueNames (Waits ks bound (s ∷ newer)) (instead o (Pending c t))
