@@ -12,3 +12,4 @@ pub mod NamedLogs
 pub mod NamedCalls
 pub mod NamedSteps
 pub mod NamedMerges
+mod Worked
