@@ -25,12 +25,12 @@ use Rattle.sym_states.specs.Attempts.{attempt}
 use Rattle.sym_states.specs.Exploring.{Setting, first_state, context_of, before_call, recovery_of, recovery_if, roots_of, Reaches, forks, needs, ends, goes, all_of, Evaluates, none, stop, leaf, fork, await, crowd}
 use Rattle.sym_states.specs.Merging.{Partial, add_all, by_verdict, still_meets, joined_with, combined, combined_all, folded, first_partial, Where, fault_of, cause_of, first_some, has_recovered, filled_by, filled_all, state_of, child_by_cause, child_by_fault, child_of, children_of, merged}
 use Rattle.sym_states.specs.Sides.{share_of}
-use Rattle.sym_states.specs.States.{Frame, State, Context, Child, Go, Stop, Step, Goes, Forks, Needs, Ends, Needed, told_with, opens}
+use Rattle.sym_states.specs.States.{Frame, State, Context, Child, Go, Stop, Step, Goes, Forks, Needs, Ends, Needed, told_with, results_of, opens}
 use Rattle.sym_states.specs.Verdicts.{Verdict, Sat, Unsat, Spent}
 use Rattle.exploration_laws.specs.Calls.{AreKept}
-use Rattle.exploration_laws.specs.Pending.{Kind, kind_of, kinds_of, Returns, Earlier, ValueNames, ValueNamesIf, FrameNames, EntryNames, EventNames, LogNames, SnapshotNames, bound_of, AreNamed, PendingsAreNamed, IsNeeded, Recovery, recovery_in, LeafNames, StateNames, ChildNames, StepNames, EachChildNames, ListsName, older, recovery_for, FirstsName, RootsName, MergesName, EvaluationsName}
+use Rattle.exploration_laws.specs.Pending.{Kind, kind_of, kinds_of, Returns, Earlier, ValueNames, ValueNamesIf, FrameNames, EntryNames, EventNames, LogNames, SnapshotNames, bound_of, AreNamed, PendingsAreNamed, IsNeeded, Recovery, recovery_in, ResultsName, LeafNames, StateNames, ChildNames, StepNames, EachChildNames, ListsName, older, recovery_for, FirstsName, RootsName, MergesName, EvaluationsName, ExplorationsName}
 use Rattle.exploration_laws.proofs.Calls.{IsBelowIf, snapshot-below, cut-kept, filled-kept, firsts-keep}
-use Rattle.exploration_laws.proofs.NamedValues.{each-more, each-append, returns-older, returns-all, value-more, value-more-if, args-name, unset-name}
+use Rattle.exploration_laws.proofs.NamedValues.{each-more, each-append, returns-older, returns-all, value-more, value-more-if, results-name, args-name, unset-name}
 use Rattle.exploration_laws.proofs.NamedLogs.{entries-more, cut-names, fill-names}
 use Rattle.exploration_laws.proofs.NamedCalls.{each-at}
 use Rattle.exploration_laws.proofs.NamedSteps.{attempts-name}
@@ -244,7 +244,7 @@ module _ (p : ProgramData) (mods : List (List Location)) (r : Option Recovery) (
 
   filled_by-names : (s : State) (n : Needed) (l : Leaf) → LeafNames (recovery n) l → Fills s → Fills (filled_by s n l)
   filled_by-names s n (leaf.Done t entries v) g h =
-      ((done-names s n entries v g.0 g.1 h, same-recovery s.target n v s.snapshots ∙ h.0.1), kinds-recovered p n v s.snapshots ∙ h.1)
+      ((done-names s n entries v g.1.0 g.1.1 h, same-recovery s.target n v s.snapshots ∙ h.0.1), kinds-recovered p n v s.snapshots ∙ h.1)
   filled_by-names s n _ g h = h
 
   filled_all-names : (s : State) (calls : List Needed) (ls : List Leaf) → UsedBy (map recovery calls) ls → Fills s → Fills (filled_all s calls ls)
@@ -255,12 +255,15 @@ module _ (p : ProgramData) (mods : List (List Location)) (r : Option Recovery) (
 
   -- ---- children
 
+  told-names : (s : State) → Fills s → ResultsName (results_of s.snapshots)
+  told-names s h = results-name (kinds_of p s.snapshots) s.snapshots h.0.0.snapshots
+
   by_cause-names : (o : Option Cause) (s : State) (calls : List Needed) (kept : List ℕ) (q : Partial) → UsedBy (map recovery calls) q.used → Fills s → ChildNames p mods r (child_by_cause o s calls kept q)
-  by_cause-names (Some why) s calls kept q g h = tt
+  by_cause-names (Some why) s calls kept q g h = (told-names s h, tt)
   by_cause-names None s calls kept q g h = (filled_all-names (record (state_of s q) { kept = kept }) calls q.used g h).0
 
   by_fault-names : (o : Option Where) (s : State) (calls : List Needed) (kept : List ℕ) (q : Partial) → UsedBy (map recovery calls) q.used → Fills s → ChildNames p mods r (child_by_fault o s calls kept q)
-  by_fault-names (Some f) s calls kept q g h = tt
+  by_fault-names (Some f) s calls kept q g h = (told-names s h, tt)
   by_fault-names None s calls kept q g h = by_cause-names (first_some cause_of q.used) s calls kept q g h
 
   child-names : (s : State) (calls : List Needed) (q : Partial) → UsedIf (map recovery calls) q.used q.kept → Fills s → ChildNames p mods r (child_of s calls q)
@@ -268,7 +271,7 @@ module _ (p : ProgramData) (mods : List (List Location)) (r : Option Recovery) (
       elim q.kept as (λ o. UsedIf (map recovery calls) q.used o → ChildNames p mods r (elim o [
         | None ↦ Stop (leaf.Open (told_with None q.condition (state_of s q)) cause.Solver)
         | Some kept ↦ child_by_fault (first_some fault_of q.used) s calls kept q
-      ])) [ None ↦ (λ used. tt) | Some kept ↦ (λ used. by_fault-names (first_some fault_of q.used) s calls kept q used h) ] g
+      ])) [ None ↦ (λ used. (told-names s h, tt)) | Some kept ↦ (λ used. by_fault-names (first_some fault_of q.used) s calls kept q used h) ] g
 
   children-names : (s : State) (calls : List Needed) (k j : ℕ) (ps : List Partial) → PartialsName (map recovery calls) ps → Fills s → Each (ChildNames p mods r) (children_of s calls k j ps)
   children-names s calls k j [] g h = tt
@@ -283,7 +286,7 @@ merges-name c s calls results named lists =
       | None ↦ opens cause.Shares s
       | Some partials ↦ Forks (children_of s calls (length partials) 0 partials)
     ])) [
-      | None ↦ (λ h. tt)
+      | None ↦ (λ h. (results-name ks s.snapshots named.snapshots, tt))
       | Some partials ↦ (λ h. children-names c.program c.mods r ks s calls (length partials) 0 partials h ((named, refl), refl))
     ]
     (folded-names c s [] rs results (first_partial s ∷ []) lists (tt, tt))
@@ -345,3 +348,10 @@ module _ (e : Setting) where
 
 pub evaluations-name : EvaluationsName
 evaluations-name e rs children lists tasks h k = evaluates-name e k rs h
+
+told-alone : (r : Option Recovery) (ls : List Leaf) → Each (LeafNames r) ls → Each (λ l. ResultsName (told_of l).results) ls
+told-alone r ls h = each-more (LeafNames r) (λ l. ResultsName (told_of l).results) (λ l g. g.0) ls h
+
+pub explorations-name : ExplorationsName
+explorations-name e leaves tasks h =
+    told-alone None leaves (evaluations-name e (None ∷ []) (Go (first_state e) ∷ []) (leaves ∷ []) tasks ((firsts-name e, refl), tt) h).0

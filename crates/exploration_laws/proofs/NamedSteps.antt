@@ -50,12 +50,12 @@ use Rattle.sym_states.specs.declared.frames.Place.TheVariants.{At, End, Never}
 use Rattle.sym_states.specs.declared.frames.Target.{Target}
 use Rattle.sym_states.specs.Attempts.{knows, firm, faulted, fails_in, fails, passed, must, Reached, reached, access_alive, access_base, access, ReadBytes, either_way, read_on, read_one, before, read_all, reads, Valued, valued, joins, join_read, loaded, loads, writes, copies, makes, frees_object, frees_made, frees_alive, frees_base, frees, divides_by, divides, gives_term, picks, selects, mallocs, enters, skips, is_skipped, calls, took, frees_of_node, frees_at, frees_from, ended, completed, completes, ends_first, leaves_to, resumed, ends_frame, is_main_end, returns, exits, computes, compares, casts, places, chooses, asks_memory, loads_at, stores_at, copies_from, takes_input, puts, branches, switches, executes, with_left, attempt_at, next_call, snapshot_of, mods_of, result_type, if_result, recovers}
 use Rattle.sym_states.specs.Sides.{Offspring, Lives, Spends, offsprings, held_side, Offer, Alone, Several, alone, offer, share_of, child_of, children_of, forks, stays, Tested, Good, Bad, Answered, tested, test, taken, choose_way}
-use Rattle.sym_states.specs.States.{Frame, State, Context, Child, Step, Forks, Flow, On, Over, then_flow, then_step, opens, in_frame, appended, shown, here, code_of, made_now, counted, set, set_if, moved, gives, goes_on, unless_needed, needs_at, entered, name_below}
+use Rattle.sym_states.specs.States.{Frame, State, Context, Child, Step, Forks, Flow, On, Over, then_flow, then_step, opens, in_frame, appended, shown, here, code_of, made_now, counted, set, set_if, moved, gives, goes_on, unless_needed, needs_at, results_of, entered, name_below}
 use Rattle.sym_states.specs.Terms.{resolved, raw_in, byte_resolved, value_in, number_in, address_in, pending_in, term_in, calculated, compared_values, cast_to, chosen, low_byte, truth_of, size_in, moved_by_all, input_at, is_nonzero, has_quotient, is_small, is_within, is_start, branch_sides, switch_sides, bytes_of_value, stored_bytes, joined_as, set_all}
 use Rattle.exploration_laws.specs.Calls.{AreKept}
-use Rattle.exploration_laws.specs.Pending.{Kind, kind_of, kinds_of, Returns, Earlier, ValueNames, ValueNamesIf, FrameNames, ByteNames, EntryNames, EventNames, LogNames, SnapshotNames, bound_of, AreNamed, PendingsAreNamed, AreNeeded, JoinNeeds, Recovery, recovery_in, DoneNames, StateNames, ChildNames, StepNames, AttemptsName, AttemptsNeed, ValuesNeed, BytesNeed}
+use Rattle.exploration_laws.specs.Pending.{Kind, kind_of, kinds_of, Returns, Earlier, ValueNames, ValueNamesIf, FrameNames, ByteNames, EntryNames, EventNames, LogNames, SnapshotNames, bound_of, AreNamed, PendingsAreNamed, AreNeeded, JoinNeeds, ResultsName, Recovery, recovery_in, DoneNames, StateNames, ChildNames, StepNames, AttemptsName, AttemptsNeed, ValuesNeed, BytesNeed}
 use Rattle.exploration_laws.proofs.Calls.{skip-kept}
-use Rattle.exploration_laws.proofs.NamedValues.{each-more, each-append, returns-more, returns-last, value-more, value-more-if, Waits, AreWaited, resolved-waits, stored-names, raw_in-names, regs-set-name, args-name, unset-name, put_pending-waits, JoinNames, joined-names, bytes_resolved-wait}
+use Rattle.exploration_laws.proofs.NamedValues.{each-more, each-append, returns-more, returns-last, value-more, value-more-if, Waits, AreWaited, resolved-waits, results-name, stored-names, raw_in-names, regs-set-name, args-name, unset-name, put_pending-waits, JoinNames, joined-names, bytes_resolved-wait}
 use Rattle.exploration_laws.proofs.NamedLogs.{Within, log-within, log-later, take-names, in-names, ReadNames, read-names}
 use Rattle.exploration_laws.proofs.NamedCalls.{wants-needed, waits-needed}
 
@@ -185,6 +185,9 @@ module _ (c : Context) (shots : List Snapshot) (target : Option Target) where
     ap (λ ss. recovery_in c.program s.target ss) h.1.0 ∙ ap (λ o. recovery_in c.program o shots) h.1.1,
   )
 
+  told-names : (s : State) → Stands s → ResultsName (results_of s.snapshots)
+  told-names s h = subst (λ ss. ResultsName (results_of ss)) (sym h.1.0) (results-name (kinds_of c.program shots) shots h.0.snapshots)
+
   framed : (f : Frame) (s : State) → FrameNames Own f → Stands s → Stands (in_frame f s)
   framed f s h k = (record { calls = k.0.calls; frame = h; callers = k.0.callers; log = k.0.log; snapshots = k.0.snapshots; path = k.0.path }, k.1)
 
@@ -265,8 +268,8 @@ module _ (c : Context) (shots : List Snapshot) (target : Option Target) where
   -- ---- faults and tests
 
   fails_in-names : (at : Option Target) (s : State) (kind : FaultKind) → Stands s → Gives (fails_in at kind s)
-  fails_in-names None s kind h = then_step-names Stands (knows answers.Output s) (faulted kind) (knows-names answers.Output s h) (λ u k. tt)
-  fails_in-names (Some at) s kind h = tt
+  fails_in-names None s kind h = then_step-names Stands (knows answers.Output s) (faulted kind) (knows-names answers.Output s h) (λ u k. (told-names u k, tt))
+  fails_in-names (Some at) s kind h = (told-names s h, tt)
 
   fails-names : (kind : FaultKind) (s : State) → Stands s → Gives (fails kind s)
   fails-names kind s h = fails_in-names s.target s kind h
@@ -298,7 +301,7 @@ module _ (c : Context) (shots : List Snapshot) (target : Option Target) where
   child-names take s shares (Lives side condition kept) takes h =
       let t = record s { condition = condition; kept = kept; shares = shares } in
       out (take side t) (takes side t (conditioned condition kept shares s h))
-  child-names take s shares (Spends condition) takes h = tt
+  child-names take s shares (Spends condition) takes h = (told-names s h, tt)
 
   children-names : (take : ℕ → State → State) (s : State) (k j : ℕ) (os : List Offspring) → Takes take → Stands s → Each (ChildNames c.program c.mods (recovery_in c.program target shots)) (children_of take s k j os)
   children-names take s k j [] takes h = tt
@@ -307,7 +310,7 @@ module _ (c : Context) (shots : List Snapshot) (target : Option Target) where
   forks-names : (take : ℕ → State → State) (s : State) (os : List Offspring) → Takes take → Stands s → Gives (forks take s os)
   forks-names take s os takes h =
       elim (nat_lt s.shares (length os)) as (λ b. Gives (elim b [ true ↦ opens Shares s | false ↦ Forks (children_of take s (length os) 0 os) ]))
-      [ true ↦ tt | false ↦ children-names take s (length os) 0 os takes h ]
+      [ true ↦ (told-names s h, tt) | false ↦ children-names take s (length os) 0 os takes h ]
 
   tested-if : (b : Bool) (t : State) → Stands t → TestedGives (cond b (Good t) (Bad t))
   tested-if true t h = h
@@ -363,7 +366,7 @@ module _ (c : Context) (shots : List Snapshot) (target : Option Target) where
   either_way-names P (Answered step) next h k = h
 
   read_on-names : (x : ObjectName) (at : Tree) (tests : ℕ) (s : State) → Stands s → FlowGives ReadStands (read_on c x at tests s)
-  read_on-names x at zero s h = tt
+  read_on-names x at zero s h = (told-names s h, tt)
   read_on-names x at (suc tests) s h =
       elim (read_byte s.memory.globals s.condition x at s.memory.log)
       as (λ r. ReadNames Own r → FlowGives ReadStands (elim r [ Byte b ↦ On (record { bytes = b ∷ []; state = s }) | Undecided t ↦ either_way (test c t s) (λ u. read_on c x at tests u) ])) [
@@ -524,7 +527,7 @@ module _ (c : Context) (shots : List Snapshot) (target : Option Target) where
       )
 
   completes-names : (v : Option SymValue) (s : State) → Stands s → Gives (completes v s)
-  completes-names v s h = then_step-names Stands (knows answers.Output s) (completed v) (knows-names answers.Output s h) (λ u g. tt)
+  completes-names v s h = then_step-names Stands (knows answers.Output s) (completed v) (knows-names answers.Output s h) (λ u g. (told-names u g, tt))
 
   given-names : (P : CallId → RegType → Type 0) (at : Location) (v : Option SymValue) → ValueNamesIf P v → ValueNamesIf P (if_result at v)
   given-names P location.Result v h = h
@@ -532,10 +535,14 @@ module _ (c : Context) (shots : List Snapshot) (target : Option Target) where
 
   recovers-names : (at : Target) (v : Option SymValue) (s : State) → Some at ≡ target → ValueNamesIf Own v → Stands s → Gives (recovers at v s)
   recovers-names at v s is k h =
-      subst (λ o. DoneNames (recovery_in c.program o shots) (entries_in at.at (take (length s.memory.log - at.length) s.memory.log)) (if_result at.at v)) is (
-        in-names (kinds_of c.program shots) at.call.0 at.at (take (length s.memory.log - at.length) s.memory.log)
-            (take-names (kinds_of c.program shots) at.call.0 (length s.memory.log - at.length) s.memory.log (subst (λ o. LogNames (kinds_of c.program shots) (bound_of o shots) s.memory.log) (sym is) h.0.log)),
-        given-names (Earlier (kinds_of c.program shots) at.call.0) at.at v (subst (λ o. ValueNamesIf (Earlier (kinds_of c.program shots) (bound_of o shots)) v) (sym is) k),
+      let since = take (length s.memory.log - at.length) s.memory.log in
+      let log = subst (λ o. LogNames (kinds_of c.program shots) (bound_of o shots) s.memory.log) (sym is) h.0.log in
+      let given = subst (λ o. ValueNamesIf (Earlier (kinds_of c.program shots) (bound_of o shots)) v) (sym is) k in (
+        told-names s h,
+        subst (λ o. DoneNames (recovery_in c.program o shots) (entries_in at.at since) (if_result at.at v)) is (
+          in-names (kinds_of c.program shots) at.call.0 at.at since (take-names (kinds_of c.program shots) at.call.0 (length s.memory.log - at.length) s.memory.log log),
+          given-names (Earlier (kinds_of c.program shots) at.call.0) at.at v given,
+        ),
       )
 
   ends_first-names : (at : Option Target) (v : Option SymValue) (s : State) → at ≡ target → ValueNamesIf Own v → Stands s → Gives (ends_first at v s)
@@ -633,7 +640,7 @@ module _ (c : Context) (shots : List Snapshot) (target : Option Target) where
   attempt_at-names : (place : Place) (s : State) → Stands s → Gives (attempt_at c place s)
   attempt_at-names (At at) s h =
       elim s.left as (λ k. Gives (elim k [ zero ↦ opens Steps s | suc left ↦ executes c (code_of c.program s.frame) (with_left left s) ])) [
-        | zero ↦ tt
+        | zero ↦ (told-names s h, tt)
         | suc left ↦ executes-names (code_of c.program s.frame) (with_left left s) (with_left-names left s h)
       ]
   attempt_at-names End s h = ends_frame-names None s tt h

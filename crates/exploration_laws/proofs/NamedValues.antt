@@ -25,12 +25,13 @@ use Rattle.sym_bytes.specs.Cutting.{byte_of, cut_value}
 use Rattle.sym_bytes.specs.Joining.{ints_of, offsets_of, is_pending, are_pending, put_first, put_call, mixed_or, pending_call, calls_in, join_pending, join_integer, join_null, null_if_zero, join_offsets, join_pointer, join_bytes}
 use Rattle.sym_bytes.specs.Pointers.{Pointer}
 use Rattle.sym_bytes.specs.Value.{SymValue, Int, Ptr, Pending}
+use Rattle.leaves.specs.Events.{Recovered}
 use Rattle.skip_records.specs.Snapshots.{Snapshot}
-use Rattle.sym_states.specs.States.{State, Needed, needs_at}
+use Rattle.sym_states.specs.States.{State, Needed, needs_at, results_of}
 use Rattle.sym_states.specs.Terms.{bytes_of_value, is_of_bytes, part_of, instead, with_result, resolved, byte_resolved, set_or_null, raw_in, value_in, put_pending, pending_in, stored_bytes, joined_as}
 use Rattle.exploration_laws.specs.Calls.{Skip, skips_of, NumberedFrom}
 use Rattle.exploration_laws.specs.Open.{Rise}
-use Rattle.exploration_laws.specs.Pending.{Kind, kind_of, kinds_of, Returns, Earlier, ValueNames, ValueNamesIf, ByteNames, SnapshotNames, NoneTwice}
+use Rattle.exploration_laws.specs.Pending.{Kind, kind_of, kinds_of, Returns, Earlier, ValueNames, ValueNamesIf, ByteNames, SnapshotNames, ResultsName, NoneTwice}
 
 -- ---- lists
 
@@ -161,6 +162,17 @@ module _ (mods : List (List Location)) (ks : List Kind) (bound : ℕ) where
     where
       next : (n k : ℕ) → n ≡ k → n < k + 1
       next n k is = omega (arith, is)
+
+-- ---- results that are told
+
+told-if : (ks : List Kind) (call : CallId) (o : Option SymValue) (more : List Recovered) → ValueNamesIf (Earlier ks call.0) o → ResultsName more
+    → ResultsName (elim o [ None ↦ more | Some v ↦ record { call = call; value = v } ∷ more ])
+told-if ks call None more h k = k
+told-if ks call (Some v) more h k = (value-more (Earlier ks call.0) (λ c t. c.0 < call.0) (λ c t names. names.0) v h, k)
+
+pub results-name : (ks : List Kind) (shots : List Snapshot) → Each (SnapshotNames ks) shots → ResultsName (results_of shots)
+results-name ks [] h = tt
+results-name ks (s ∷ shots) h = told-if ks s.call s.result (results_of shots) h.0.1 (results-name ks shots h.1)
 
 -- ---- parts of values
 

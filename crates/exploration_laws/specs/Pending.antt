@@ -17,11 +17,11 @@ use Rattle.sym_bytes.specs.Entry.{Entry}
 use Rattle.sym_bytes.specs.Value as value
 use Rattle.sym_bytes.specs.Value.{SymValue}
 use Rattle.log_laws.specs.Logs.{Log, Did, Marked}
-use Rattle.leaves.specs.Events.{Event, Branch, Load, Leaf, Done}
+use Rattle.leaves.specs.Events.{Event, Branch, Load, Recovered, Leaf, Done, told_of}
 use Rattle.skip_records.specs.Snapshots.{Snapshot}
 use Rattle.sym_states.specs.declared.frames.Target.{Target}
 use Rattle.sym_states.specs.Attempts.{result_type, attempt}
-use Rattle.sym_states.specs.Exploring.{Setting, first_state, roots_of, Evaluates}
+use Rattle.sym_states.specs.Exploring.{Setting, first_state, roots_of, Evaluates, Explores}
 use Rattle.sym_states.specs.Merging.{merged}
 use Rattle.sym_states.specs.States.{Frame, State, Context, Child, Go, Stop, Step, Goes, Forks, Needs, Ends, Needed, needs_at}
 use Rattle.sym_states.specs.Terms.{pending_in, byte_resolved, joined_as}
@@ -145,9 +145,17 @@ abbrev pub DoneNames : Option Recovery → List Entry → Option SymValue → Ty
 DoneNames None entries result = Unit {0}
 DoneNames (Some r) entries result = Each (EntryNames (Earlier r.kinds r.call.0)) entries × ValueNamesIf (Earlier r.kinds r.call.0) result
 
+abbrev pub EndNames : Option Recovery → Leaf → Type 0
+EndNames r (Done told entries result) = DoneNames r entries result
+EndNames r _ = Unit {0}
+
+-- recovered results name older calls than their own
+abbrev pub ResultsName : List Recovered → Type 0
+ResultsName rs = Each (λ r. ValueNames (λ c t. c.0 < r.call.0) r.value) rs
+
+-- so do those that a leaf tells
 abbrev pub LeafNames : Option Recovery → Leaf → Type 0
-LeafNames r (Done told entries result) = DoneNames r entries result
-LeafNames r _ = Unit {0}
+LeafNames r l = ResultsName (told_of l).results × EndNames r l
 
 -- the state's pending results are named, and it stands in this recovery, or in none
 abbrev pub StateNames : ProgramData → List (List Location) → Option Recovery → State → Type 0
@@ -205,6 +213,10 @@ MergesName = (c : Context) (s : State) (calls : List Needed) (results : List (Li
 abbrev pub EvaluationsName : Type 0
 EvaluationsName = (e : Setting) (rs : List (Option Recovery)) (children : List Child) (lists : List (List Leaf)) (tasks : ℕ)
     → EachChildNames e.program e.mods rs children → Evaluates e children lists tasks → ListsName rs lists
+
+-- the leaves of a whole exploration tell results that name older calls
+abbrev pub ExplorationsName : Type 0
+ExplorationsName = (e : Setting) (leaves : List Leaf) (tasks : ℕ) → Explores e leaves tasks → Each (λ l. ResultsName (told_of l).results) leaves
 
 -- the operands that wait for results
 abbrev pub ValuesNeed : Type 0

@@ -5,7 +5,7 @@ ghost use Rattle.exploration_laws.specs.Cuts.{CutsStand};
 ghost use Rattle.exploration_laws.specs.Falls.{AttemptsFall, RootsFall, MergesFall};
 ghost use Rattle.exploration_laws.specs.Has.{AttemptsHave, RootsHave, MergesHave, EvaluationsHave};
 ghost use Rattle.exploration_laws.specs.Open.{NeedsAreOpen, NeedsRise};
-ghost use Rattle.exploration_laws.specs.Pending.{FirstsName, AttemptsName, RootsName, MergesName, EvaluationsName, ValuesNeed, BytesNeed, AttemptsNeed};
+ghost use Rattle.exploration_laws.specs.Pending.{FirstsName, AttemptsName, RootsName, MergesName, EvaluationsName, ExplorationsName, ValuesNeed, BytesNeed, AttemptsNeed};
 ghost use Rattle.exploration_laws.specs.Exist.{AnswersAreReached, EvaluationsExist, ExplorationsExist};
 
 /// The condition of what an attempt, a root or a merge gives begins with the conjuncts of the state that gave it, and so does that
@@ -66,13 +66,15 @@ pub fn calls_are_kept()
 
 /// Each pending result in a state names a call that was skipped before, with the type of what its function returns: in registers, in
 /// the log, where older than the marks above it, among the arguments and results of skipped calls, and among the loads. This is kept by
-/// whatever an exploration reaches, in recoveries and through merges too; and what a recovery gives names older calls than its own.
+/// whatever an exploration reaches, in recoveries and through merges too; and what a recovery gives names older calls than its own, as
+/// each recovered result does that a leaf tells.
 pub fn pending_results_name_earlier_calls()
     ensures first { FirstsName }
     ensures attempts { AttemptsName }
     ensures roots { RootsName }
     ensures merges { MergesName }
     ensures leaves { EvaluationsName }
+    ensures explored { ExplorationsName }
 {}
 
 /// What is needed for operands, for bytes that are loaded and by an attempt are skipped calls, each with a location that its mark may

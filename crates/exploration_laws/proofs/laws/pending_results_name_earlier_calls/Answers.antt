@@ -1,5 +1,5 @@
 use Rattle.exploration_laws.proofs.NamedSteps.{attempts-name}
-use Rattle.exploration_laws.proofs.NamedMerges.{firsts-name, roots-name, merges-name, evaluations-name}
+use Rattle.exploration_laws.proofs.NamedMerges.{firsts-name, roots-name, merges-name, evaluations-name, explorations-name}
 use Rattle.exploration_laws.proofs.laws.pending_results_name_earlier_calls.Goals as goal
 
 pub returns-clause-first : goal.returns-clause-first
@@ -16,3 +16,6 @@ returns-clause-merges c = merges-name
 
 pub returns-clause-leaves : goal.returns-clause-leaves
 returns-clause-leaves c = evaluations-name
+
+pub returns-clause-explored : goal.returns-clause-explored
+returns-clause-explored c = explorations-name
