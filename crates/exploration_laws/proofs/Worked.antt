@@ -3,7 +3,7 @@ use Rattle.std.proofs.Common.{◌≡◌, ℕ, ◌-◌, true, false, List, [], �
 use Rattle.std.specs.Prelude.{unwrap_or}
 use Rattle.bitnum.specs.declared.BinOp.TheVariants as op
 use Rattle.bitnum.specs.declared.Pred.TheVariants as pred
-use Rattle.terms.specs.Tree.{Tree}
+use Rattle.terms.specs.Tree.{Tree, constant}
 use Rattle.terms.specs.Value.{value_of, are_met_by}
 use Rattle.terms.specs.Same.{same}
 use Rattle.terms.specs.Folding.{folded_one, folded_two, folded_choice}
@@ -33,7 +33,8 @@ use Rattle.flat_ir.specs.Machine.{Run, On, Over, End, Exited, Faulted}
 use Rattle.flat_ir.specs.Run.{run, step}
 use Rattle.leaves.specs.declared.options.Cause.{Cause}
 use Rattle.leaves.specs.declared.options.Cause.TheVariants as cause
-use Rattle.leaves.specs.Events.{Leaf, Told}
+use Rattle.sym_bytes.specs.Value.{Int, Pending}
+use Rattle.leaves.specs.Events.{Leaf, Told, told_of}
 use Rattle.leaves.specs.Events as leaf
 use Rattle.sym_states.specs.Exploring.{Setting}
 use Rattle.sym_states.specs.Running.{explored}
@@ -282,3 +283,47 @@ writes_in_order = refl
 ends_with_that_step : end_of (run noting.program [] 100) ≡ None
 unfolding run step
 ends_with_that_step = refl
+
+-- ---- a result that is a result
+
+abbrev five : Func
+five = function 0 [] (Some (type.Int 32)) (node.Ret (Some (int 5)) ∷ [])
+
+abbrev same_number : Func
+same_number = function 1 (type.Int 32 ∷ []) (Some (type.Int 32)) (node.Ret (Some (reg 0)) ∷ [])
+
+-- a skipped call has the pending result of another one as its argument, and gives it back
+abbrev passing : Setting
+passing = record {
+  program = record {
+    globals = [];
+    funcs = five ∷ same_number ∷ main_of (type.Int 32 ∷ type.Int 32 ∷ type.Int 1 ∷ [])
+        (node.Call (func 0) [] (Some (r 0)) (at 1)
+        ∷ node.Call (func 1) (reg 0 ∷ []) (Some (r 1)) (at 2)
+        ∷ node.Cmp pred.Eq (reg 1) (int 5) (r 2) (at 3)
+        ∷ node.Branch (reg 2) (at 4) (at 5)
+        ∷ node.Ret (Some (int 1))
+        ∷ node.Ret (Some (int 2))
+        ∷ []) ∷ [];
+    main = func 2;
+    defined = 3;
+  };
+  skips = func 0 ∷ func 1 ∷ [];
+  mods = [] ∷ [] ∷ [] ∷ [];
+  slice = λ g place. record { funcs = record { start = next.Node (at 0); nexts = stops ∷ [] } ∷ record { start = next.Node (at 0); nexts = stops ∷ [] } ∷ [] };
+  inputs = 0;
+  steps = 100;
+  shares = 8;
+  verdict = λ condition budget. Unsat;
+}
+
+-- two recoveries, one after the other
+recovers_two_results : lines passing ≡ Complete [] 1 [] 9 ∷ []
+unfolding folded_one folded_two folded_choice folded_join same
+recovers_two_results = refl
+
+-- the newer call's recovered result names the older call
+tells_an_older_call : map (λ l. (told_of l).results) (explored 40 passing)
+    ≡ (record { call = record { 0 = 1 }; value = Int (constant (record { width = 32; bits = 5 })) } ∷ record { call = record { 0 = 2 }; value = Pending (record { 0 = 1 }) (type.Int 32) } ∷ []) ∷ []
+unfolding folded_one folded_two folded_choice folded_join same
+tells_an_older_call = refl
