@@ -99,7 +99,7 @@ module _ (e : Setting) (s : State) (named : PendingsAreNamed e.program e.mods s)
         path = tt;
       }
 
-  root-names : (n : Needed) → IsNeeded s n → ChildNames e.program e.mods (recovery_for e.program s n) (recovery_if e s n.at (slice_get s.snapshots (n.call.0 - 1)))
+  root-names : (n : Needed) → IsNeeded e.mods s n → ChildNames e.program e.mods (recovery_for e.program s n) (recovery_if e s n.at (slice_get s.snapshots (n.call.0 - 1)))
   root-names n h =
       let shot = h.shot in
       let low = subst (IsBelowIf (1 + length s.snapshots)) h.found (snapshot-below e.mods 1 (n.call.0 - 1) s.snapshots named.calls.numbered) in

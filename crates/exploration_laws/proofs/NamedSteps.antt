@@ -230,12 +230,12 @@ module _ (c : Context) (shots : List Snapshot) (target : Option Target) where
   pending-wait s [] h = (tt, tt)
   pending-wait s (a ∷ as') h = put_pending-waits Waiting (value_in s a) (pending_in s as') (value_in-waits s a h) (pending-wait s as' h)
 
-  needs-results : (s : State) (calls : List CallId) → Stands s → AreWaited Waiting calls → AreNeeded s (needs_at location.Result calls)
+  needs-results : (s : State) (calls : List CallId) → Stands s → AreWaited Waiting calls → AreNeeded c.mods s (needs_at location.Result calls)
   needs-results s calls h wait =
       waits-needed c.program c.mods s (out s h).0.calls (bound_of target shots) calls
       (subst (λ ss. AreWaited (Waits (kinds_of c.program ss) (bound_of target shots) ss) calls) (sym h.1.0) wait)
 
-  needs-changes : (w : Want) (s : State) → Stands s → AreNeeded s (needs_at (location_of w) (need w s.memory.log))
+  needs-changes : (w : Want) (s : State) → Stands s → AreNeeded c.mods s (needs_at (location_of w) (need w s.memory.log))
   needs-changes w s h = wants-needed c.program c.mods s (out s h).0.calls (kinds_of c.program shots) (bound_of target shots) w h.0.log
 
   -- ---- parts that go on
@@ -252,7 +252,7 @@ module _ (c : Context) (shots : List Snapshot) (target : Option Target) where
   then_step-names P (On x) next h k = k x h
   then_step-names P (Over step) next h k = h
 
-  unless_needed-names : (at : Location) (needed : List CallId) (s : State) → AreNeeded s (needs_at at needed) → Stands s → FlowGives Stands (unless_needed at needed s)
+  unless_needed-names : (at : Location) (needed : List CallId) (s : State) → AreNeeded c.mods s (needs_at at needed) → Stands s → FlowGives Stands (unless_needed at needed s)
   unless_needed-names at [] s e h = h
   unless_needed-names at (d ∷ needed) s e h = (out s h, e)
 
@@ -583,7 +583,7 @@ module _ (c : Context) (shots : List Snapshot) (target : Option Target) where
 
   -- ---- bytes that wait
 
-  join-needs : (j : Join) (s : State) → Stands s → JoinNames Waiting j → JoinNeeds s j
+  join-needs : (j : Join) (s : State) → Stands s → JoinNames Waiting j → JoinNeeds c.mods s j
   join-needs (answers.Value v) s h k = tt
   join-needs (answers.Needs needed) s h k = needs-results s needed h k
   join-needs (answers.Test t v) s h k = tt

@@ -291,7 +291,7 @@ same-type (type.Int v) type.Ptr h = cc
 same-type type.Ptr (type.Int w) h = cc
 same-type type.Ptr type.Ptr h = refl
 
-front : (a b : Bool) → (a && b) ≡ true → a ≡ true
+pub front : (a b : Bool) → (a && b) ≡ true → a ≡ true
 front true b h = refl
 front false b h = h
 

@@ -1,13 +1,14 @@
 -- Pending results name calls that were skipped before, with the type of what their functions return; and calls that are needed are
 -- skipped ones whose changes or results aren't known.
-use Rattle.std.specs.Prelude.{◌≡◌, ◌⊎◌, ℕ, ◌+◌, ◌-◌, ◌<◌, List, [], ◌∷◌, length, map, filter, Option, Some, None, slice_get, nat_lt}
-use Rattle.std.specs.List.{AllByRecursion as Each}
+use Rattle.std.specs.Prelude.{◌≡◌, ◌⊎◌, ℕ, ◌+◌, ◌-◌, ◌<◌, List, [], ◌∷◌, length, map, filter, Option, Some, None, slice_get, nat_lt, true}
+use Rattle.std.specs.List.{AllByRecursion as Each, list_any}
 use Rattle.flat_ir.specs.declared.names.Location.{Location}
 use Rattle.flat_ir.specs.declared.names.Location.TheVariants as location
 use Rattle.flat_ir.specs.declared.nodes.Operand.{Operand}
 use Rattle.flat_ir.specs.declared.nodes.RegType.{RegType}
 use Rattle.flat_ir.specs.declared.program.ProgramData.{ProgramData}
 use Rattle.flat_ir.specs.Machine.{func_at}
+use Rattle.flat_ir.specs.Locations.{same_location}
 use Rattle.sym_bytes.specs.declared.names.CallId.{CallId}
 use Rattle.sym_bytes.specs.Answers.{Join, Needs as Needing}
 use Rattle.sym_bytes.specs.Byte as byte
@@ -25,7 +26,7 @@ use Rattle.sym_states.specs.Exploring.{Setting, first_state, roots_of, Evaluates
 use Rattle.sym_states.specs.Merging.{merged}
 use Rattle.sym_states.specs.States.{Frame, State, Context, Child, Go, Stop, Step, Goes, Forks, Needs, Ends, Needed, needs_at}
 use Rattle.sym_states.specs.Terms.{pending_in, byte_resolved, joined_as}
-use Rattle.exploration_laws.specs.Calls.{AreKept}
+use Rattle.exploration_laws.specs.Calls.{skip_of, AreKept}
 use Rattle.exploration_laws.specs.Open.{IsOpenIn, Rise}
 
 -- ---- what a pending result names
@@ -104,30 +105,30 @@ PendingsAreNamed p mods s = AreNamed p mods s.frame s.callers s.memory.log s.sna
 
 -- ---- what is needed
 
--- what is needed of a skipped call: changes in a location that its mark may have changed and has no fill for, or its result, which
--- isn't recovered
-pub data IsUnknown (s : State) (n : Needed) (shot : Snapshot) : Type 0 where
-  changed : IsOpenIn n.call n.at s.memory.log → IsUnknown s n shot
-  returned : n.at ≡ location.Result → shot.result ≡ None → IsUnknown s n shot
+-- what is needed of a skipped call: changes in a location that a call of its function may change, and for which its mark has no fill;
+-- or its result, which isn't recovered
+pub data IsUnknown (mods : List (List Location)) (s : State) (n : Needed) (shot : Snapshot) : Type 0 where
+  changed : list_any (same_location n.at) (skip_of mods shot).mods ≡ true → IsOpenIn n.call n.at s.memory.log → IsUnknown mods s n shot
+  returned : n.at ≡ location.Result → shot.result ≡ None → IsUnknown mods s n shot
 
-pub record IsNeeded (s : State) (n : Needed) : Type 0 where
+pub record IsNeeded (mods : List (List Location)) (s : State) (n : Needed) : Type 0 where
   pub shot : Snapshot
   pub found : slice_get s.snapshots (n.call.0 - 1) ≡ Some shot
   pub is : shot.call.0 ≡ n.call.0
-  pub unknown : IsUnknown s n shot
+  pub unknown : IsUnknown mods s n shot
 
 -- no call stands twice with one location
 abbrev pub NoneTwice : List Needed → Type 0
 NoneTwice [] = Unit {0}
 NoneTwice (n ∷ ns) = Each (λ m. m.call.0 ≡ n.call.0 → m.at ≡ n.at → ⊥) ns × NoneTwice ns
 
-abbrev pub AreNeeded : State → List Needed → Type 0
-AreNeeded s ns = Each (IsNeeded s) ns × NoneTwice ns
+abbrev pub AreNeeded : List (List Location) → State → List Needed → Type 0
+AreNeeded mods s ns = Each (IsNeeded mods s) ns × NoneTwice ns
 
 -- where bytes make a value of a type, or need results of calls
-abbrev pub JoinNeeds : State → Join → Type 0
-JoinNeeds s (Needing calls) = AreNeeded s (needs_at location.Result calls)
-JoinNeeds s _ = Unit {0}
+abbrev pub JoinNeeds : List (List Location) → State → Join → Type 0
+JoinNeeds mods s (Needing calls) = AreNeeded mods s (needs_at location.Result calls)
+JoinNeeds mods s _ = Unit {0}
 
 -- ---- what is given
 
@@ -168,7 +169,7 @@ ChildNames p mods r (Stop l) = LeafNames r l
 abbrev pub StepNames : ProgramData → List (List Location) → Option Recovery → Step → Type 0
 StepNames p mods r (Goes s) = StateNames p mods r s
 StepNames p mods r (Forks cs) = Each (ChildNames p mods r) cs
-StepNames p mods r (Needs s calls) = StateNames p mods r s × AreNeeded s calls
+StepNames p mods r (Needs s calls) = StateNames p mods r s × AreNeeded mods s calls
 StepNames p mods r (Ends l) = LeafNames r l
 
 -- each child stands in the recovery beside it, or in none
@@ -202,7 +203,7 @@ AttemptsName = (c : Context) (s : State) → PendingsAreNamed c.program c.mods s
     → StepNames c.program c.mods (recovery_in c.program s.target s.snapshots) (attempt c s)
 
 abbrev pub RootsName : Type 0
-RootsName = (e : Setting) (s : State) (calls : List Needed) → PendingsAreNamed e.program e.mods s → Each (IsNeeded s) calls
+RootsName = (e : Setting) (s : State) (calls : List Needed) → PendingsAreNamed e.program e.mods s → Each (IsNeeded e.mods s) calls
     → EachChildNames e.program e.mods (map (recovery_for e.program s) calls) (roots_of e s calls)
 
 abbrev pub MergesName : Type 0
@@ -221,14 +222,14 @@ ExplorationsName = (e : Setting) (leaves : List Leaf) (tasks : ℕ) → Explores
 -- the operands that wait for results
 abbrev pub ValuesNeed : Type 0
 ValuesNeed = (c : Context) (s : State) (operands : List Operand) → PendingsAreNamed c.program c.mods s
-    → AreNeeded s (needs_at location.Result (pending_in s operands))
+    → AreNeeded c.mods s (needs_at location.Result (pending_in s operands))
 
 -- the bytes that wait for results, where each names a call of the state
 abbrev pub BytesNeed : Type 0
 BytesNeed = (c : Context) (s : State) (t : RegType) (bytes : List SymByte) → PendingsAreNamed c.program c.mods s
     → Each (ByteNames (Earlier (kinds_of c.program s.snapshots) (bound_of s.target s.snapshots))) bytes
-    → JoinNeeds s (joined_as t (map (byte_resolved s.snapshots) bytes))
+    → JoinNeeds c.mods s (joined_as t (map (byte_resolved s.snapshots) bytes))
 
 -- an attempt needs skipped calls alone, and none of them twice
 abbrev pub AttemptsNeed : Type 0
-AttemptsNeed = (c : Context) (s t : State) (calls : List Needed) → PendingsAreNamed c.program c.mods s → attempt c s ≡ Needs t calls → AreNeeded t calls
+AttemptsNeed = (c : Context) (s t : State) (calls : List Needed) → PendingsAreNamed c.program c.mods s → attempt c s ≡ Needs t calls → AreNeeded c.mods t calls

@@ -77,8 +77,9 @@ pub fn pending_results_name_earlier_calls()
     ensures explored { ExplorationsName }
 {}
 
-/// What is needed for operands, for bytes that are loaded and by an attempt are skipped calls, each with a location that its mark may
-/// have changed and has no fill for, or with its result, which isn't recovered; and no call is needed twice with one location.
+/// What is needed for operands, for bytes that are loaded and by an attempt are skipped calls, each with a location that a call of its
+/// function may change and that its mark has no fill for, or with its result, which isn't recovered; and no call is needed twice with
+/// one location.
 pub fn needs_name_skipped_calls()
     ensures values { ValuesNeed }
     ensures bytes { BytesNeed }
