@@ -14,6 +14,7 @@ use Rattle.flat_ir.specs.declared.program.Func.{Func}
 use Rattle.flat_ir.specs.Machine.{node_at, nodes_of, func_at}
 use Rattle.mod_ref.specs.Changes.{Changes, itself, within}
 use Rattle.points_to.specs.Within.{callee_of}
+use Rattle.mod_ref.proofs.OwnChanges.{tells_map}
 use Rattle.mod_ref.specs.Callers.{AreOwn, AnyCalls, CallsInto, CallsMember, Tells, func}
 
 pub own_changes : (p : ProgramData) (l : Location) (own : List Bool) (k : ℕ) → AreOwn p l own → has own k ≡ true → Changes p (func k) l
@@ -28,10 +29,6 @@ calls_change p l set k false only t e = absurd (cc)
 pub node_there : (p : ProgramData) (k i : ℕ) (f : Func) (n : Node) → slice_get p.funcs k ≡ Some f → slice_get f.nodes i ≡ Some n →
     node_at p (func k) (record { 0 = i }) ≡ n
 node_there p k i f n is there = rw (is, there) refl
-
-tells_map : (P Q : Type 0) (b : Bool) → (P → Q) → (Q → P) → Tells b P → Tells b Q
-tells_map P Q true to back h = to h
-tells_map P Q false to back h = λ q. h (back q)
 
 -- a node that calls stands among the nodes
 calls_there : (nodes : List Node) (i : ℕ) (callee : FuncId) → callee_of (unwrap_or (slice_get nodes i) node.Unreachable) ≡ Some callee →

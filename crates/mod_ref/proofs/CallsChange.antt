@@ -32,7 +32,7 @@ use Rattle.flat_ir.specs.Whole.{IsWhole, operands_of}
 use Rattle.flat_ir.proofs.MadeBasics.{each_append, each_reverse}
 use Rattle.points_to.specs.Asked.{holder_in}
 use Rattle.points_to.specs.Within.{BaseWithin, PointsWithin, callee_of, IsWithin, RunWithin}
-use Rattle.points_to.proofs.AskedIn.{Follow, follow_head, follow_tail}
+use Rattle.points_to.proofs.Parts.{each_part}
 use Rattle.points_to.proofs.Containing.{node_reads}
 use Rattle.points_to.proofs.RunsWithin.{address_within, operands_within, result_func, step_within}
 use Rattle.flat_ir.specs.Locations.{location_of}
@@ -105,16 +105,16 @@ loaded_adds p s None r next = nothing p s.frame.func s.history
 loaded_adds p s (Some v) r next = nothing p s.frame.func s.history
 
 -- what passes the tests of a free was made by malloc
-passes_free : (alive made at_start : Bool) → (if not alive then Some fault.UseAfterFree else (if made && at_start then None else Some fault.BadFree)) ≡ None → made ≡ true
+pub passes_free : (alive made at_start : Bool) → (if not alive then Some fault.UseAfterFree else (if made && at_start then None else Some fault.BadFree)) ≡ None → made ≡ true
 passes_free true true at_start e = refl
 passes_free true false at_start e = cc
 passes_free false made at_start e = cc
 
-malloc_site : (p : ProgramData) (x : ObjectName) → made_by_malloc p x ≡ true → is_malloc_site p (site_of x) ≡ true
+pub malloc_site : (p : ProgramData) (x : ObjectName) → made_by_malloc p x ≡ true → is_malloc_site p (site_of x) ≡ true
 malloc_site p (Global g) e = e
 malloc_site p (Made frame made) e = e
 
-abbrev free_fault_at : ProgramData → History → ℕ → Option ObjectName → Option FaultKind
+abbrev pub free_fault_at : ProgramData → History → ℕ → Option ObjectName → Option FaultKind
 free_fault_at p h offset b = elim b [ None ↦ (if offset == 0 then None else Some fault.BadFree) | Some y ↦ freed_object_fault p h y offset ]
 
 freed_adds : (p : ProgramData) (f : FuncId) (n : NodeId) (x : Node) (a : Operand) (b : Option ObjectName) (offset : ℕ) (h : History) → node_at p f n ≡ x → freed_by x ≡ Some a
@@ -134,35 +134,12 @@ node_own p f n k (suc times) is = (itself f.func n (location.Life (site.Node f.f
 
 at_own : (p : ProgramData) (f : Frame) (n : NodeId) (count : ℕ) (x : Node) → node_at p f.func n ≡ x → Each (IsOwn p f.func) (frees_at f n count x)
 at_own p f n count (node.Alloca size result next) at = node_own p f n 1 count (ap (changed_by f.func n) at)
-at_own p f n count (node.Bin op a b result next) at = tt
-at_own p f n count (node.Cmp pred a b result next) at = tt
-at_own p f n count (node.Cast op a result next) at = tt
-at_own p f n count (node.Gep base parts result next) at = tt
-at_own p f n count (node.Select condition a b result next) at = tt
-at_own p f n count (node.Malloc size result next) at = tt
-at_own p f n count (node.Free pointer next) at = tt
-at_own p f n count (node.Load pointer result next) at = tt
-at_own p f n count (node.Store value pointer next) at = tt
-at_own p f n count (node.Copy from to next) at = tt
-at_own p f n count (node.In result next) at = tt
-at_own p f n count (node.Put value next) at = tt
-at_own p f n count (node.Call callee args result next) at = tt
-at_own p f n count (node.Moves ms next) at = tt
-at_own p f n count (node.Jump next) at = tt
-at_own p f n count (node.Branch condition first second) at = tt
-at_own p f n count (node.Switch value cases otherwise) at = tt
-at_own p f n count (node.Ret value) at = tt
-at_own p f n count (node.Exit status) at = tt
-at_own p f n count node.Abort at = tt
-at_own p f n count (node.Assert args) at = tt
-at_own p f n count node.Unreachable at = tt
+at_own p f n count _ at = tt
 
-from_own : (p : ProgramData) (f : Frame) (k : ℕ) (ns : List Node) → Follow (nodes_of (func_at p f.func)) k ns → Each (IsOwn p f.func) (frees_from f k ns)
-from_own p f k [] follow = tt
-from_own p f k (n ∷ ns) follow =
-    each_append (IsOwn p f.func) (frees_at f (record { 0 = k }) (unwrap_or (slice_get f.counts k) 0) n) (frees_from f (k + 1) ns)
-    (at_own p f (record { 0 = k }) (unwrap_or (slice_get f.counts k) 0) n (ap (λ (o : Option Node). unwrap_or o node.Unreachable) (follow_head (nodes_of (func_at p f.func)) k n ns follow)))
-    (from_own p f (k + 1) ns (follow_tail (nodes_of (func_at p f.func)) k n ns follow))
+from_own : (p : ProgramData) (f : Frame) → Each (IsOwn p f.func) (frees_from f 0 (nodes_of (func_at p f.func)))
+from_own p f =
+    each_part (λ k x. frees_at f (record { 0 = k }) (unwrap_or (slice_get f.counts k) 0) x) (frees_from f) (λ k. refl, λ k x xs. refl) (IsOwn p f.func) (nodes_of (func_at p f.func))
+    (λ k x there. at_own p f (record { 0 = k }) (unwrap_or (slice_get f.counts k) 0) x (ap (λ (o : Option Node). unwrap_or o node.Unreachable) there))
 
 ended_adds : (p : ProgramData) (s : State) → Adds p s.frame.func s.history (ended p s).history
 ended_adds p s =
@@ -170,7 +147,7 @@ ended_adds p s =
     record {
       added = reverse all;
       whole = refl;
-      changes = each_reverse (IsOwn p s.frame.func) all (from_own p s.frame 0 (nodes_of (func_at p s.frame.func)) (λ i. let e : i ≡ 0 + i = omega arith in ap (slice_get (nodes_of (func_at p s.frame.func))) (sym e)));
+      changes = each_reverse (IsOwn p s.frame.func) all (from_own p s.frame);
     }
 
 returns_adds : (p : ProgramData) (f : FuncId) (h : History) (v : Option ConcreteValue) (callers : List Frame) (s : State) → Adds p f h s.history → RunAdds p f h (returns p v callers s)
@@ -181,10 +158,6 @@ returns_adds p f h v (g ∷ gs) s a = a
 attempt_adds : (p : ProgramData) (input : List ℕ) (n : Node) (s : State) → IsAt p n s → RunAdds p s.frame.func s.history (attempt p input n s)
 attempt_adds p input (node.Bin op a b result next) s at =
     unless_adds p s.frame.func s.history (division_fault op (number_in s a) (number_in s b)) s _ (nothing p s.frame.func s.history) (λ e. nothing p s.frame.func s.history)
-attempt_adds p input (node.Cmp pred a b result next) s at = nothing p s.frame.func s.history
-attempt_adds p input (node.Cast op a result next) s at = nothing p s.frame.func s.history
-attempt_adds p input (node.Gep base parts result next) s at = nothing p s.frame.func s.history
-attempt_adds p input (node.Select condition a b result next) s at = nothing p s.frame.func s.history
 attempt_adds p input (node.Alloca size result next) s at = made_adds p s size (Some result) next (changes_here p s (node.Alloca size result next) _ at.at refl)
 attempt_adds p input (node.Malloc size result next) s at =
     elim (nat_lt 65536 (number_in s size).bits) as (λ t. RunAdds p s.frame.func s.history (if t then gives_if result (Ptr null) next s else gives_if result (new_here s) next (allocated (number_in s size).bits s))) [
@@ -214,20 +187,13 @@ attempt_adds p input (node.Copy from there next) s at =
     (nothing p s.frame.func s.history)))
 attempt_adds p input (node.In result next) s at = one p s.frame.func s.history Get (changes_here p s (node.In result next) location.Input at.at refl)
 attempt_adds p input (node.Put value next) s at = one p s.frame.func s.history _ (changes_here p s (node.Put value next) location.Output at.at refl)
-attempt_adds p input (node.Call callee args result next) s at = nothing p s.frame.func s.history
-attempt_adds p input (node.Moves ms next) s at = nothing p s.frame.func s.history
-attempt_adds p input (node.Jump next) s at = nothing p s.frame.func s.history
 attempt_adds p input (node.Branch condition first second) s at =
     elim ((number_in s condition).bits == 1) as (λ t. RunAdds p s.frame.func s.history (if t then branches 0 first s else branches 1 second s)) [
       | true ↦ nothing p s.frame.func s.history
       | false ↦ nothing p s.frame.func s.history
     ]
-attempt_adds p input (node.Switch value cases otherwise) s at = nothing p s.frame.func s.history
 attempt_adds p input (node.Ret value) s at = returns_adds p s.frame.func s.history (option_map (value_in s.frame) value) s.callers (ended p s) (ended_adds p s)
-attempt_adds p input (node.Exit status) s at = nothing p s.frame.func s.history
-attempt_adds p input node.Abort s at = nothing p s.frame.func s.history
-attempt_adds p input (node.Assert args) s at = nothing p s.frame.func s.history
-attempt_adds p input node.Unreachable s at = nothing p s.frame.func s.history
+attempt_adds p input _ s at = nothing p s.frame.func s.history
 
 pub step_adds : (p : ProgramData) (input : List ℕ) (s : State) → IsWhole p → IsWithin p s → Adds p s.frame.func s.history (state_of (step p input s)).history
 step_adds p input s whole w =
@@ -289,11 +255,6 @@ returns_reached p f depth k v (g ∷ gs) s (deeper _ _ _ calls r) =
 attempt_reached : (p : ProgramData) (input : List ℕ) (f : FuncId) (depth : ℕ) (n : Node) (s : State) → node_at p s.frame.func s.frame.node ≡ n → Reached p f depth s.frame.func s.callers
     → StaysReached p f depth (attempt p input n s)
 attempt_reached p input f depth (node.Bin op a b result next) s at r = unless_reached p f depth (division_fault op (number_in s a) (number_in s b)) s _ (λ le. r)
-attempt_reached p input f depth (node.Cmp pred a b result next) s at r = λ le. r
-attempt_reached p input f depth (node.Cast op a result next) s at r = λ le. r
-attempt_reached p input f depth (node.Gep base parts result next) s at r = λ le. r
-attempt_reached p input f depth (node.Select condition a b result next) s at r = λ le. r
-attempt_reached p input f depth (node.Alloca size result next) s at r = λ le. r
 attempt_reached p input f depth (node.Malloc size result next) s at r =
     elim (nat_lt 65536 (number_in s size).bits) as (λ t. StaysReached p f depth (if t then gives_if result (Ptr null) next s else gives_if result (new_here s) next (allocated (number_in s size).bits s))) [
       | true ↦ gives_reached p f depth result (Ptr null) next s r
@@ -307,19 +268,16 @@ attempt_reached p input f depth (node.Store value pointer next) s at r =
     unless_reached p f depth (access_fault p s.history (bytes_of_value (value_in s.frame value)) (address_in s pointer)) s _ (λ le. r)
 attempt_reached p input f depth (node.Copy from there next) s at r =
     unless_reached p f depth (access_fault p s.history 1 (address_in s from)) s _ (unless_reached p f depth (access_fault p s.history 1 (address_in s there)) s _ (λ le. r))
-attempt_reached p input f depth (node.In result next) s at r = λ le. r
-attempt_reached p input f depth (node.Put value next) s at r = λ le. r
 attempt_reached p input f depth (node.Call callee args result next) s at r = λ le. deeper callee s.frame s.callers (ap callee_of at) r
 attempt_reached p input f depth (node.Moves ms next) s at r = λ le. subst (λ (h : FuncId). Reached p f depth h s.callers) (sym (moves_func s.frame ms s.frame)) r
-attempt_reached p input f depth (node.Jump next) s at r = λ le. r
 attempt_reached p input f depth (node.Branch condition yes' no') s at r =
     elim ((number_in s condition).bits == 1) as (λ t. StaysReached p f depth (if t then branches 0 yes' s else branches 1 no' s)) [ true ↦ λ le. r | false ↦ λ le. r ]
-attempt_reached p input f depth (node.Switch value cases otherwise) s at r = λ le. r
 attempt_reached p input f depth (node.Ret value) s at r = returns_reached p f depth s.frame.func (option_map (value_in s.frame) value) s.callers (ended p s) r
 attempt_reached p input f depth (node.Exit status) s at r = tt
 attempt_reached p input f depth node.Abort s at r = tt
 attempt_reached p input f depth (node.Assert args) s at r = tt
 attempt_reached p input f depth node.Unreachable s at r = tt
+attempt_reached p input f depth _ s at r = λ le. r
 
 step_reached : (p : ProgramData) (input : List ℕ) (f : FuncId) (depth : ℕ) (s : State) → Reached p f depth s.frame.func s.callers → StaysReached p f depth (step p input s)
 step_reached p input f depth s r =

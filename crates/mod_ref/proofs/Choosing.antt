@@ -1,10 +1,10 @@
 -- The lists of what functions change.
-use Rattle.std.proofs.Common.{◌≡◌, ◌<◌, ◌≤◌, ◌+◌, ◌*◌, ◌^◌, ℕ, zero, suc, Bool, true, false, List, [], ◌∷◌, ◌++◌, length, drop, map, refl, sym, ap, subst, arith, ⊎_elim, ◌∙◌}
-use Rattle.std.specs.Prelude.{slice_index_or, if◌then◌else◌}
+use Rattle.std.proofs.Common.{◌≡◌, ◌<◌, ◌≤◌, ◌+◌, ◌*◌, ℕ, zero, suc, Bool, true, false, List, [], ◌∷◌, ◌++◌, length, drop, map, refl, sym, ap, subst, arith, ◌∙◌}
+use Rattle.std.specs.Prelude.{slice_index_or}
 use Rattle.std.specs.List.{Contains, AllByRecursion as Each}
-use Rattle.std.proofs.lemmas.Bool.{cases_lt}
+use Rattle.std.proofs.lemmas.List.{length_push}
 use Rattle.std.proofs.lemmas.List.Elements.{recursion_from_All}
-use Rattle.least.specs.Sets.{has, Exactly}
+use Rattle.least.specs.Sets.{has}
 use Rattle.flat_ir.specs.declared.names.FuncId.{FuncId}
 use Rattle.flat_ir.specs.declared.names.Site.{Site}
 use Rattle.flat_ir.specs.declared.names.Site.TheVariants as site
@@ -19,9 +19,10 @@ use Rattle.flat_ir.specs.Whole.{IsWhole, IsFuncOf}
 use Rattle.points_to.specs.Points.{rank}
 use Rattle.mod_ref.specs.Changes.{Changes}
 use Rattle.mod_ref.specs.Callers.{func, AreColumns, location_at}
-use Rattle.mod_ref.specs.Mods.{AreChanges, AreMods, kept, chosen}
+use Rattle.mod_ref.specs.Mods.{AreChanges, kept, chosen}
 use Rattle.mod_ref.specs.Sites.{site_of_node, sites_from, sites_by_funcs, sites_by_globals, sites, locations, place_of, RiseFrom}
 use Rattle.mod_ref.proofs.SitesAre.{changes_in}
+use Rattle.mod_ref.proofs.OwnChanges.{pushed}
 
 -- ---- the order of locations
 
@@ -49,27 +50,7 @@ globals_between k (g ∷ gs) = let e : k + 1 + length gs ≡ k + suc (length gs)
 one_between : (f : FuncId) (k : ℕ) (x : Node) → Between rank ((f.0 + 1) * 4294967296 + k) ((f.0 + 1) * 4294967296 + k + 1) (site_of_node f k x)
 one_between f k (node.Alloca size result next) = (omega arith, omega arith)
 one_between f k (node.Malloc size result next) = (omega arith, omega arith)
-one_between f k (node.Free pointer next) = omega arith
-one_between f k (node.Store value pointer next) = omega arith
-one_between f k (node.Copy from to next) = omega arith
-one_between f k (node.Bin op b c result next) = omega arith
-one_between f k (node.Cmp pred b c result next) = omega arith
-one_between f k (node.Cast op b result next) = omega arith
-one_between f k (node.Gep base parts result next) = omega arith
-one_between f k (node.Select condition b c result next) = omega arith
-one_between f k (node.Load pointer result next) = omega arith
-one_between f k (node.In result next) = omega arith
-one_between f k (node.Put value next) = omega arith
-one_between f k (node.Call callee args result next) = omega arith
-one_between f k (node.Moves sets next) = omega arith
-one_between f k (node.Jump next) = omega arith
-one_between f k (node.Branch condition first second) = omega arith
-one_between f k (node.Switch value cases otherwise) = omega arith
-one_between f k (node.Ret value) = omega arith
-one_between f k (node.Exit status) = omega arith
-one_between f k node.Abort = omega arith
-one_between f k (node.Assert args) = omega arith
-one_between f k node.Unreachable = omega arith
+one_between f k _ = omega arith
 
 nodes_between : (f : FuncId) (k : ℕ) (xs : List Node) → Between rank ((f.0 + 1) * 4294967296 + k) ((f.0 + 1) * 4294967296 + k + length xs) (sites_from f k xs)
 nodes_between f k [] = omega arith
@@ -202,26 +183,6 @@ are_changes p whole f ls cs list is columns size e =
           chosen_has f c.0 ls cs l c.1 lt c.2 ((columns c.0 lt).all f (subst (λ (m : Location). Changes p (func f) m) (sym there) h));
     })
 
--- ---- lists that are pushed
-
-old_at : {A : Type 0} (xs ys : List A) (d : A) (k : ℕ) → k < length xs → slice_index_or (xs ++ ys) k d ≡ slice_index_or xs k d
-old_at [] ys d k lt = absurd (omega (arith, lt))
-old_at (x ∷ xs) ys d zero lt = refl
-old_at (x ∷ xs) ys d (suc k) lt = old_at xs ys d k (omega (arith, lt))
-
-new_at : {A : Type 0} (xs : List A) (y d : A) → slice_index_or (xs ++ y ∷ []) (length xs) d ≡ y
-new_at [] y d = refl
-new_at (x ∷ xs) y d = new_at xs y d
-
--- what holds of each element of a list holds with one more
-pub pushed : {A : Type 0} (P : ℕ → A → Type 0) (d : A) (xs : List A) (n : ℕ) (y : A) → length xs ≡ n → ((k : ℕ) → k < n → P k (slice_index_or xs k d)) → P n y
-    → (k : ℕ) → k < n + 1 → P k (slice_index_or (xs ++ y ∷ []) k d)
-pushed P d xs n y len each last k lt =
-    ⊎_elim (λ below. subst (λ z. P k z) (sym (old_at xs (y ∷ []) d k (omega (arith, below, len)))) (each k below))
-    (λ at'. let e : k ≡ length xs = omega arith in
-    let same : n ≡ k = omega arith in
-    subst (λ (j : ℕ). P k (slice_index_or (xs ++ y ∷ []) j d)) (sym e) (subst (λ z. P k z) (sym (new_at xs y d)) (subst (λ (j : ℕ). P j y) same last))) (cases_lt k n)
-
 -- ---- the globals one by one
 
 globals_step : (m k : ℕ) (gs : List GlobalVar) → k < length gs → sites_by_globals m (drop k gs) ≡ site.Global m ∷ sites_by_globals (m + 1) (drop (suc k) gs)
@@ -247,12 +208,8 @@ here_changes p q f items ls others cs columns list whole e i a b are size d is =
     are_changes p whole f ls cs list (a ∙ (i ∙ ap locations e)) (subst (λ (r : ProgramData). AreColumns r ls cs) e are) size
     (is ∙ (ap (λ (xs : List Location). chosen f xs columns) (b ∙ sym a) ∙ ap (chosen f ls) d))
 
-pushed_length : {A : Type 0} (xs : List A) (y : A) → length (xs ++ y ∷ []) ≡ length xs + 1
-pushed_length [] y = refl
-pushed_length (x ∷ xs) y = let e = pushed_length xs y in omega (arith, e)
-
 pub one_longer : {A : Type 0} (new old : List A) (y : A) (n : ℕ) → new ≡ old ++ y ∷ [] → length old ≡ n → length new ≡ n + 1
-one_longer new old y n e len = ap length e ∙ (pushed_length old y ∙ ap (λ (k : ℕ). k + 1) len)
+one_longer new old y n e len = ap length e ∙ (length_push old y ∙ ap (λ (k : ℕ). k + 1) len)
 
 pub one_list_more : (p : ProgramData) (new old : List (List Location)) (y : List Location) (n : ℕ) → new ≡ old ++ y ∷ [] → length old ≡ n
     → ((k : ℕ) → k < n → AreChanges p (func k) (slice_index_or old k [])) → AreChanges p (func n) y → (k : ℕ) → k < n + 1 → AreChanges p (func k) (slice_index_or new k [])

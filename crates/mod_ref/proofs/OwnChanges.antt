@@ -1,9 +1,9 @@
 -- Which functions change a location by themselves.
-use Rattle.std.proofs.Common.{◌≡◌, ◌<◌, ◌≤◌, ◌+◌, ℕ, zero, suc, Bool, true, false, List, [], ◌∷◌, ◌++◌, length, Option, Some, None, refl, sym, ap, subst, arith, ⊎_elim, ◌∙◌, ◌⊎◌, inl, inr}
-use Rattle.std.specs.Prelude.{slice_get, unwrap_or}
+use Rattle.std.proofs.Common.{◌≡◌, ◌<◌, ◌≤◌, ◌+◌, ℕ, Bool, true, false, List, [], ◌∷◌, ◌++◌, length, Option, Some, refl, sym, ap, subst, arith, ⊎_elim, ◌∙◌, ◌⊎◌, inl, inr}
+use Rattle.std.specs.Prelude.{slice_index_or, unwrap_or}
+use Rattle.std.proofs.lemmas.List.{get_or_append_left, get_or_push}
 use Rattle.std.specs.List.{Contains, AllByRecursion as Each}
 use Rattle.std.proofs.lemmas.Bool.{cases_lt}
-use Rattle.std.proofs.lemmas.List.Elements.{All-contains, All-from_recursion}
 use Rattle.std.proofs.lemmas.Option.{slice_get_past}
 use Rattle.flat_ir.specs.declared.names.FuncId.{FuncId}
 use Rattle.flat_ir.specs.declared.names.NodeId.{NodeId}
@@ -11,45 +11,38 @@ use Rattle.flat_ir.specs.declared.names.RegId.{RegId}
 use Rattle.flat_ir.specs.declared.names.Site.{Site}
 use Rattle.flat_ir.specs.declared.names.Site.TheVariants as site
 use Rattle.flat_ir.specs.declared.names.Location.{Location}
-use Rattle.flat_ir.specs.declared.names.Location.TheVariants as location
 use Rattle.flat_ir.specs.declared.nodes.Node.{Node}
 use Rattle.flat_ir.specs.declared.nodes.Node.TheVariants as node
 use Rattle.flat_ir.specs.declared.nodes.Operand.{Operand}
 use Rattle.flat_ir.specs.declared.nodes.Operand.TheVariants as operand
-use Rattle.flat_ir.specs.declared.program.Func.{Func}
 use Rattle.flat_ir.specs.declared.program.ProgramData.{ProgramData}
 use Rattle.flat_ir.specs.Machine.{func_at, regs_of, nodes_of, node_at}
 use Rattle.flat_ir.specs.Whole.{IsWhole, OperandIn, operands_of}
 use Rattle.points_to.specs.declared.holders.Holder.{Holder}
-use Rattle.points_to.specs.declared.holders.Holder.TheVariants.{Register, Returned, Bytes, Address, Nothing}
-use Rattle.points_to.specs.declared.holders.Inclusion.{Inclusion}
-use Rattle.points_to.specs.declared.holders.Inclusion.TheVariants.{Names, Copies, Loads, Stores, Moves}
-use Rattle.points_to.specs.Asked.{holder_in, asked}
-use Rattle.points_to.specs.Points.{Points, address, names, copies, loads, stores, moves, PointsTo}
+use Rattle.points_to.specs.declared.holders.Holder.TheVariants.{Register, Address, Nothing}
+use Rattle.points_to.specs.declared.holders.Inclusion.TheVariants.{Names, Copies, Loads}
+use Rattle.points_to.specs.Asked.{holder_in}
+use Rattle.points_to.specs.Points.{address, names, copies, loads, stores, moves, PointsTo}
 use Rattle.points_to.specs.Rows.{Tables}
 use Rattle.points_to.specs.Sets.{ArePointsTo, of_reg}
 use Rattle.points_to.specs.Solving.{IsStored}
 use Rattle.points_to.proofs.AskedIn.{asked_in}
 use Rattle.points_to.proofs.Containing.{node_reads}
 use Rattle.least.specs.Sets.{has}
-use Rattle.mod_ref.specs.Changes.{ChangesAt, changes, writes, frees, changed_by, written_through, freed_by, is_malloc_site}
+use Rattle.mod_ref.specs.Changes.{ChangesAt, changes, writes, frees, changed_by, written_through, freed_by}
 use Rattle.mod_ref.specs.Callers.{func, Tells, Writes, Frees, ChangesItself, AreOwn}
 use Rattle.mod_ref.specs.CallerLaws.{has-below}
 
 -- a holder without a row points nowhere, and an address to its global
 abbrev Held : Holder → Site → Type 0
-Held (Register f r) s = Unit {0}
-Held (Returned f) s = Unit {0}
-Held (Bytes t) s = Unit {0}
 Held (Address g) s = s ≡ site.Global g
 Held Nothing s = ⊥
+Held _ s = Unit {0}
 
 stored_held : (h : Holder) (s : Site) → IsStored h → Held h s
-stored_held (Register f r) s h = tt
-stored_held (Returned f) s h = tt
-stored_held (Bytes t) s h = tt
 stored_held (Address g) s h = absurd h
 stored_held Nothing s h = absurd h
+stored_held _ s h = tt
 
 pub held : (p : ProgramData) → IsWhole p → (h : Holder) (s : Site) → PointsTo p h s → Held h s
 held p whole _ _ (address g) = refl
@@ -86,52 +79,11 @@ tells_not P false h e = h
 pub written_reads : (P : Operand → Type 0) (x : Node) (a : Operand) → Each P (operands_of x) → written_through x ≡ Some a → P a
 written_reads P (node.Store value pointer next) a all e = let same : pointer ≡ a = cc in subst P same all.1.0
 written_reads P (node.Copy from to next) a all e = let same : to ≡ a = cc in subst P same all.1.0
-written_reads P (node.Bin op b c result next) a all e = absurd (cc)
-written_reads P (node.Cmp pred b c result next) a all e = absurd (cc)
-written_reads P (node.Cast op b result next) a all e = absurd (cc)
-written_reads P (node.Gep base parts result next) a all e = absurd (cc)
-written_reads P (node.Select condition b c result next) a all e = absurd (cc)
-written_reads P (node.Alloca size result next) a all e = absurd (cc)
-written_reads P (node.Malloc size result next) a all e = absurd (cc)
-written_reads P (node.Free pointer next) a all e = absurd (cc)
-written_reads P (node.Load pointer result next) a all e = absurd (cc)
-written_reads P (node.In result next) a all e = absurd (cc)
-written_reads P (node.Put value next) a all e = absurd (cc)
-written_reads P (node.Call callee args result next) a all e = absurd (cc)
-written_reads P (node.Moves sets next) a all e = absurd (cc)
-written_reads P (node.Jump next) a all e = absurd (cc)
-written_reads P (node.Branch condition first second) a all e = absurd (cc)
-written_reads P (node.Switch value cases otherwise) a all e = absurd (cc)
-written_reads P (node.Ret value) a all e = absurd (cc)
-written_reads P (node.Exit status) a all e = absurd (cc)
-written_reads P node.Abort a all e = absurd (cc)
-written_reads P (node.Assert args) a all e = absurd (cc)
-written_reads P node.Unreachable a all e = absurd (cc)
+written_reads P _ a all e = absurd (cc)
 
 pub freed_reads : (P : Operand → Type 0) (x : Node) (a : Operand) → Each P (operands_of x) → freed_by x ≡ Some a → P a
 freed_reads P (node.Free pointer next) a all e = let same : pointer ≡ a = cc in subst P same all.0
-freed_reads P (node.Store value pointer next) a all e = absurd (cc)
-freed_reads P (node.Copy from to next) a all e = absurd (cc)
-freed_reads P (node.Bin op b c result next) a all e = absurd (cc)
-freed_reads P (node.Cmp pred b c result next) a all e = absurd (cc)
-freed_reads P (node.Cast op b result next) a all e = absurd (cc)
-freed_reads P (node.Gep base parts result next) a all e = absurd (cc)
-freed_reads P (node.Select condition b c result next) a all e = absurd (cc)
-freed_reads P (node.Alloca size result next) a all e = absurd (cc)
-freed_reads P (node.Malloc size result next) a all e = absurd (cc)
-freed_reads P (node.Load pointer result next) a all e = absurd (cc)
-freed_reads P (node.In result next) a all e = absurd (cc)
-freed_reads P (node.Put value next) a all e = absurd (cc)
-freed_reads P (node.Call callee args result next) a all e = absurd (cc)
-freed_reads P (node.Moves sets next) a all e = absurd (cc)
-freed_reads P (node.Jump next) a all e = absurd (cc)
-freed_reads P (node.Branch condition first second) a all e = absurd (cc)
-freed_reads P (node.Switch value cases otherwise) a all e = absurd (cc)
-freed_reads P (node.Ret value) a all e = absurd (cc)
-freed_reads P (node.Exit status) a all e = absurd (cc)
-freed_reads P node.Abort a all e = absurd (cc)
-freed_reads P (node.Assert args) a all e = absurd (cc)
-freed_reads P node.Unreachable a all e = absurd (cc)
+freed_reads P _ a all e = absurd (cc)
 
 -- what a node changes, by cases
 pub by_cases : (p : ProgramData) (f : FuncId) (n : NodeId) (x : Node) (l : Location) → node_at p f n ≡ x → ChangesAt p f n l
@@ -206,23 +158,16 @@ told_at_last p f n x l b is one two told =
     tells_map (Frees p f x l) (ChangesAt p f n l) b (from_free p f n x l is)
     (λ h. ⊎_elim (λ e. absurd (one e)) (λ more. ⊎_elim (λ w. absurd (two w)) (λ w. w) more) (by_cases p f n x l is h)) told
 
-has_old : (xs ys : List Bool) (k : ℕ) → k < length xs → has (xs ++ ys) k ≡ has xs k
-has_old [] ys k lt = absurd (omega (arith, lt))
-has_old (x ∷ xs) ys zero lt = refl
-has_old (x ∷ xs) ys (suc k) lt = has_old xs ys k (omega (arith, lt))
-
-has_new : (xs : List Bool) (b : Bool) → has (xs ++ b ∷ []) (length xs) ≡ b
-has_new [] b = refl
-has_new (x ∷ xs) b = has_new xs b
+-- what holds of each element of a list holds with one more
+pub pushed : {A : Type 0} (P : ℕ → A → Type 0) (d : A) (xs : List A) (n : ℕ) (y : A) → length xs ≡ n → ((k : ℕ) → k < n → P k (slice_index_or xs k d)) → P n y
+    → (k : ℕ) → k < n + 1 → P k (slice_index_or (xs ++ y ∷ []) k d)
+pushed P d xs n y len each last k lt =
+    ⊎_elim (λ below. subst (λ z. P k z) (sym (get_or_append_left xs (y ∷ []) d k (omega (arith, below, len)))) (each k below))
+    (λ at'. let same : n ≡ k = omega arith in subst (λ z. P k z) (sym (get_or_push xs y d k (len ∙ same))) (subst (λ (j : ℕ). P j y) same last)) (cases_lt k n)
 
 pub own_more : (p : ProgramData) (l : Location) (own : List Bool) (k : ℕ) (b : Bool) → length own ≡ k → ((i : ℕ) → i < k → Tells (has own i) (ChangesItself p l (func i)))
     → Tells b (ChangesItself p l (func k)) → (i : ℕ) → i < k + 1 → Tells (has (own ++ b ∷ []) i) (ChangesItself p l (func i))
-own_more p l own k b len each last i lt =
-    ⊎_elim (λ below. subst (λ (c : Bool). Tells c (ChangesItself p l (func i))) (sym (has_old own (b ∷ []) i (omega (arith, below, len)))) (each i below))
-    (λ at'. let e : i ≡ length own = omega arith in
-    let same : k ≡ i = omega arith in
-    subst (λ (j : ℕ). Tells (has (own ++ b ∷ []) j) (ChangesItself p l (func i))) (sym e)
-    (subst (λ (c : Bool). Tells c (ChangesItself p l (func i))) (sym (has_new own b)) (subst (λ (j : ℕ). Tells b (ChangesItself p l (func j))) same last))) (cases_lt i k)
+own_more p l = pushed (λ i b. Tells b (ChangesItself p l (func i))) false
 
 func_within : (p : ProgramData) (f : FuncId) (n : ℕ) → n < length (nodes_of (func_at p f)) → f.0 < length p.funcs
 func_within p f n h =

@@ -1,10 +1,11 @@
 -- Each site to which a pointer may point is a global or a node that makes objects, and each location that a call changes is one of the list.
-use Rattle.std.proofs.Common.{◌≡◌, ◌<◌, ◌≤◌, ◌+◌, ◌*◌, ◌^◌, ℕ, zero, suc, List, [], ◌∷◌, ◌++◌, length, map, Option, Some, None, refl, sym, ap, subst, arith, ◌∙◌, ◌⊎◌, inl, inr}
-use Rattle.std.specs.Prelude.{slice_get, unwrap_or, slice_index_or, take}
+use Rattle.std.proofs.Common.{◌≡◌, ◌<◌, ◌+◌, ℕ, List, [], ◌∷◌, ◌++◌, length, map, Option, Some, None, refl, sym, ap, subst, arith, ◌∙◌, ⊎_elim, inl, inr}
+use Rattle.std.specs.Prelude.{slice_get, take}
 use Rattle.std.specs.List.{Contains, flat_map, AllByRecursion as Each}
 use Rattle.std.proofs.lemmas.List.Elements.{Contains-append_left, Contains-append_right, recursion_from_All, All-from_recursion, All-contains}
 use Rattle.std.proofs.lemmas.List.{get_or-map, length-map}
-use Rattle.std.proofs.lemmas.Option.{slice_get_within, get_or_from_slice_get}
+use Rattle.std.proofs.lemmas.Option.{slice_get_cases}
+use Rattle.flat_ir.proofs.MadeBasics.{each_append}
 use Rattle.flat_ir.specs.declared.names.FuncId.{FuncId}
 use Rattle.flat_ir.specs.declared.names.NodeId.{NodeId}
 use Rattle.flat_ir.specs.declared.names.RegId.{RegId}
@@ -16,106 +17,54 @@ use Rattle.flat_ir.specs.declared.nodes.MoveSet.{MoveSet}
 use Rattle.flat_ir.specs.declared.nodes.Node.{Node}
 use Rattle.flat_ir.specs.declared.nodes.Node.TheVariants as node
 use Rattle.flat_ir.specs.declared.nodes.Operand.{Operand}
-use Rattle.flat_ir.specs.declared.nodes.Operand.TheVariants as operand
 use Rattle.flat_ir.specs.declared.nodes.RegType.{RegType}
 use Rattle.flat_ir.specs.declared.nodes.RegType.TheVariants as type
 use Rattle.flat_ir.specs.declared.program.Func.{Func}
-use Rattle.flat_ir.specs.declared.program.GlobalVar.{GlobalVar}
 use Rattle.flat_ir.specs.declared.program.InitByte.{InitByte}
 use Rattle.flat_ir.specs.declared.program.InitByte.TheVariants as init
 use Rattle.flat_ir.specs.declared.program.ProgramData.{ProgramData}
-use Rattle.flat_ir.specs.Machine.{func_at, regs_of, nodes_of, node_at, type_at}
-use Rattle.flat_ir.specs.Whole.{IsWhole, IsGlobalOf, InitIn, OperandIn, operands_of}
+use Rattle.flat_ir.specs.Machine.{func_at, regs_of, node_at, type_at}
+use Rattle.flat_ir.specs.Whole.{IsWhole, IsGlobalOf, InitIn, OperandIn}
 use Rattle.points_to.specs.declared.holders.Holder.{Holder}
-use Rattle.points_to.specs.declared.holders.Holder.TheVariants.{Register, Returned, Bytes, Address, Nothing}
+use Rattle.points_to.specs.declared.holders.Holder.TheVariants.{Bytes}
 use Rattle.points_to.specs.declared.holders.Inclusion.{Inclusion}
 use Rattle.points_to.specs.declared.holders.Inclusion.TheVariants.{Names, Copies, Loads, Stores, Moves}
 use Rattle.points_to.specs.Asked.{holder_in, made_in, loaded_in, moved_in, passed_in, received_in, returned_in, asked_by, asked_from, asked_by_funcs, asked_by_byte, asked_by_globals, asked}
-use Rattle.points_to.specs.Points.{Points, address, names, copies, loads, stores, moves, PointsTo, IsIn}
-use Rattle.points_to.proofs.AskedIn.{asked_in, both_each, Follow, follow_head, follow_tail}
-use Rattle.points_to.proofs.Containing.{node_reads}
-use Rattle.mod_ref.specs.Changes.{ChangesAt, Changes, itself, within, changed_by, written_through, freed_by}
-use Rattle.mod_ref.specs.Callers.{Writes, Frees}
+use Rattle.points_to.specs.Points.{address, names, copies, loads, stores, moves, PointsTo, IsIn}
+use Rattle.points_to.proofs.Parts.{first, all_at, from_part, each_part}
+use Rattle.points_to.proofs.AskedIn.{asked_in, operand_in}
+use Rattle.points_to.proofs.Containing.{at_any_node, node_reads}
+use Rattle.mod_ref.specs.Changes.{ChangesAt, Changes, itself, within, changed_by}
 use Rattle.mod_ref.specs.Sites.{site_of_node, sites_from, sites_by_funcs, sites_by_globals, sites, locations}
 use Rattle.mod_ref.proofs.OwnChanges.{by_cases, written_reads, freed_reads}
 
 -- ---- globals
 
-global_from : (k g : ℕ) (gs : List GlobalVar) → g < length gs → Contains (sites_by_globals k gs) (site.Global (k + g))
-global_from k g [] lt = absurd (omega (arith, lt))
-global_from k zero (v ∷ vs) lt = let e : k ≡ k + 0 = omega arith in (0, omega arith, ap site.Global e)
-global_from k (suc g) (v ∷ vs) lt =
-    let e : k + 1 + g ≡ k + suc g = omega arith in
-    Contains-append_right (site.Global k ∷ []) (sites_by_globals (k + 1) vs) (site.Global (k + suc g))
-    (subst (λ (n : ℕ). Contains (sites_by_globals (k + 1) vs) (site.Global n)) e (global_from (k + 1) g vs (omega (arith, lt))))
-
 global_in : (p : ProgramData) (g : ℕ) → g < length p.globals → Contains (sites p) (site.Global g)
 global_in p g lt =
-    let e : 0 + g ≡ g = omega arith in
-    Contains-append_left (sites_by_globals 0 p.globals) (sites_by_funcs 0 p.funcs) (site.Global g)
-    (subst (λ (n : ℕ). Contains (sites_by_globals 0 p.globals) (site.Global n)) e (global_from 0 g p.globals lt))
+    ⊎_elim (λ there. Contains-append_left (sites_by_globals 0 p.globals) (sites_by_funcs 0 p.funcs) (site.Global g)
+    (from_part (λ k v. site.Global k ∷ []) sites_by_globals (λ k. refl, λ k v vs. refl) g p.globals there.0 (site.Global g) there.2 (first (site.Global g) [])))
+    (λ past. absurd (omega (arith, past.0, lt))) (slice_get_cases p.globals g).1
 
 -- ---- nodes
-
-abbrev node_site : ℕ → ℕ → Site
-node_site f n = site.Node (record { 0 = f }) (record { 0 = n })
-
-node_from : (f : FuncId) (k n : ℕ) (xs : List Node) (x : Node) (s : Site) → slice_get xs n ≡ Some x → Contains (site_of_node f (k + n) x) s → Contains (sites_from f k xs) s
-node_from f k n [] x s at h = absurd (cc)
-node_from f k zero (y ∷ ys) x s at h =
-    let same : y ≡ x = cc in
-    let e : k + 0 ≡ k = omega arith in
-    Contains-append_left (site_of_node f k y) (sites_from f (k + 1) ys) s
-    (subst (λ (z : Node). Contains (site_of_node f k z) s) (sym same) (subst (λ (m : ℕ). Contains (site_of_node f m x) s) e h))
-node_from f k (suc n) (y ∷ ys) x s at h =
-    let e : k + suc n ≡ k + 1 + n = omega arith in
-    Contains-append_right (site_of_node f k y) (sites_from f (k + 1) ys) s
-    (node_from f (k + 1) n ys x s at (subst (λ (m : ℕ). Contains (site_of_node f m x) s) e h))
-
-func_from : (k f : ℕ) (fs : List Func) (func : Func) (s : Site) → slice_get fs f ≡ Some func → Contains (sites_from (record { 0 = k + f }) 0 func.nodes) s
-    → Contains (sites_by_funcs k fs) s
-func_from k f [] func s at h = absurd (cc)
-func_from k zero (g ∷ gs) func s at h =
-    let same : g ≡ func = cc in
-    let e : k + 0 ≡ k = omega arith in
-    Contains-append_left (sites_from (record { 0 = k }) 0 g.nodes) (sites_by_funcs (k + 1) gs) s
-    (subst (λ (z : Func). Contains (sites_from (record { 0 = k }) 0 z.nodes) s) (sym same) (subst (λ (m : ℕ). Contains (sites_from (record { 0 = m }) 0 func.nodes) s) e h))
-func_from k (suc f) (g ∷ gs) func s at h =
-    let e : k + suc f ≡ k + 1 + f = omega arith in
-    Contains-append_right (sites_from (record { 0 = k }) 0 g.nodes) (sites_by_funcs (k + 1) gs) s
-    (func_from (k + 1) f gs func s at (subst (λ (m : ℕ). Contains (sites_from (record { 0 = m }) 0 func.nodes) s) e h))
 
 -- the site of a node that stands at its place
 site_in : (p : ProgramData) (f : FuncId) (n : NodeId) (func : Func) (x : Node) (s : Site) → slice_get p.funcs f.0 ≡ Some func → slice_get func.nodes n.0 ≡ Some x
     → Contains (site_of_node f n.0 x) s → Contains (sites p) s
 site_in p f n func x s at there h =
-    let ef : 0 + f.0 ≡ f.0 = omega arith in
-    let en : 0 + n.0 ≡ n.0 = omega arith in
     Contains-append_right (sites_by_globals 0 p.globals) (sites_by_funcs 0 p.funcs) s
-    (func_from 0 f.0 p.funcs func s at
-    (subst (λ (m : ℕ). Contains (sites_from (record { 0 = m }) 0 func.nodes) s) (sym ef)
-    (node_from f 0 n.0 func.nodes x s there (subst (λ (m : ℕ). Contains (site_of_node f m x) s) (sym en) h))))
+    (from_part (λ k g. sites_from (record { 0 = k }) 0 g.nodes) sites_by_funcs (λ k. refl, λ k g gs. refl) f.0 p.funcs func s at
+    (from_part (site_of_node f) (sites_from f) (λ k. refl, λ k y ys. refl) n.0 func.nodes x s there h))
 
 pub node_in : (p : ProgramData) (f : FuncId) (n : NodeId) (s : Site) → Contains (site_of_node f n.0 (node_at p f n)) s → Contains (sites p) s
-node_in p f n s = go (slice_get p.funcs f.0) refl
-  where
-    here' : (func : Func) → slice_get p.funcs f.0 ≡ Some func → (o : Option Node) → slice_get func.nodes n.0 ≡ o
-        → Contains (site_of_node f n.0 (unwrap_or o node.Unreachable)) s → Contains (sites p) s
-    here' func at None e h = absurd (omega (arith, h.1))
-    here' func at (Some x) e h = site_in p f n func x s at e h
-
-    go : (o : Option Func) → slice_get p.funcs f.0 ≡ o → Contains (site_of_node f n.0 (unwrap_or (slice_get (nodes_of o) n.0) node.Unreachable)) s → Contains (sites p) s
-    go None e h = absurd (omega (arith, h.1))
-    go (Some func) e h = here' func e (slice_get func.nodes n.0) refl h
+node_in p f n s =
+    at_any_node p f n (λ x. Contains (site_of_node f n.0 x) s → Contains (sites p) s) (λ func x at there. site_in p f n func x s at there) (λ h. absurd (omega (arith, h.1)))
 
 -- ---- what is named is one of them
 
 abbrev IsSite : ProgramData → Inclusion → Type 0
 IsSite p (Names h s) = Contains (sites p) s
-IsSite p (Copies from to) = Unit {0}
-IsSite p (Loads q to) = Unit {0}
-IsSite p (Stores from q) = Unit {0}
-IsSite p (Moves from to) = Unit {0}
+IsSite p _ = Unit {0}
 
 moved_is : (p : ProgramData) (f : FuncId) (sets : List MoveSet) → Each (IsSite p) (moved_in f sets)
 moved_is p f [] = tt
@@ -150,59 +99,34 @@ node_is p f n (node.Load pointer result next) h = loaded_is p f (type_at p f res
 node_is p f n (node.Store value pointer next) h = (tt, tt)
 node_is p f n (node.Copy from to next) h = (tt, tt)
 node_is p f n (node.Call callee args result next) h =
-    both_each (IsSite p) (passed_in f callee 0 (take (length (regs_of (func_at p callee))) args)) (received_in f callee result)
+    each_append (IsSite p) (passed_in f callee 0 (take (length (regs_of (func_at p callee))) args)) (received_in f callee result)
     (passed_is p f callee 0 (take (length (regs_of (func_at p callee))) args)) (received_is p f callee result)
 node_is p f n (node.Moves ms next) h = moved_is p f ms
 node_is p f n (node.Ret value) h = returned_is p f value
-node_is p f n (node.Bin op a b result next) h = tt
-node_is p f n (node.Cmp pred a b result next) h = tt
-node_is p f n (node.Cast op a result next) h = tt
-node_is p f n (node.Free pointer next) h = tt
-node_is p f n (node.In result next) h = tt
-node_is p f n (node.Put value next) h = tt
-node_is p f n (node.Jump next) h = tt
-node_is p f n (node.Branch condition first second) h = tt
-node_is p f n (node.Switch value cases otherwise) h = tt
-node_is p f n (node.Exit status) h = tt
-node_is p f n node.Abort h = tt
-node_is p f n (node.Assert args) h = tt
-node_is p f n node.Unreachable h = tt
+node_is p f n _ h = tt
 
-nodes_are : (p : ProgramData) (f : FuncId) (func : Func) (k : ℕ) (xs : List Node) → slice_get p.funcs f.0 ≡ Some func → Follow func.nodes k xs → Each (IsSite p) (asked_from p f k xs)
-nodes_are p f func k [] at follow = tt
-nodes_are p f func k (x ∷ xs) at follow =
-    both_each (IsSite p) (asked_by p f (record { 0 = k }) x) (asked_from p f (k + 1) xs)
-    (node_is p f (record { 0 = k }) x (λ s. site_in p f (record { 0 = k }) func x s at (follow_head func.nodes k x xs follow)))
-    (nodes_are p f func (k + 1) xs at (follow_tail func.nodes k x xs follow))
-
-funcs_are : (p : ProgramData) (k : ℕ) (fs : List Func) → Follow p.funcs k fs → Each (IsSite p) (asked_by_funcs p k fs)
-funcs_are p k [] follow = tt
-funcs_are p k (f ∷ fs) follow =
-    both_each (IsSite p) (asked_from p (record { 0 = k }) 0 f.nodes) (asked_by_funcs p (k + 1) fs)
-    (nodes_are p (record { 0 = k }) f 0 f.nodes (follow_head p.funcs k f fs follow) (λ i. let e : i ≡ 0 + i = omega arith in ap (slice_get f.nodes) (sym e)))
-    (funcs_are p (k + 1) fs (follow_tail p.funcs k f fs follow))
+nodes_are : (p : ProgramData) (f : FuncId) (func : Func) → slice_get p.funcs f.0 ≡ Some func → Each (IsSite p) (asked_from p f 0 func.nodes)
+nodes_are p f func at =
+    each_part (λ k. asked_by p f (record { 0 = k })) (asked_from p f) (λ k. refl, λ k x xs. refl) (IsSite p) func.nodes
+    (λ k x there. node_is p f (record { 0 = k }) x (λ s. site_in p f (record { 0 = k }) func x s at there))
 
 bytes_are : (p : ProgramData) (g : ℕ) (bs : List InitByte) → Each (InitIn (length p.globals)) bs → Each (IsSite p) (flat_map (asked_by_byte g) bs)
 bytes_are p g [] are = tt
 bytes_are p g (init.Int b ∷ bs) are = bytes_are p g bs are.1
 bytes_are p g (init.PtrByte h offset j ∷ bs) are = (global_in p h are.0.0, bytes_are p g bs are.1)
 
-globals_are : (p : ProgramData) (k : ℕ) (gs : List GlobalVar) → Each (IsGlobalOf (length p.globals)) gs → Each (IsSite p) (asked_by_globals k gs)
-globals_are p k [] are = tt
-globals_are p k (g ∷ gs) are =
-    both_each (IsSite p) (flat_map (asked_by_byte k) g.init) (asked_by_globals (k + 1) gs)
-    (bytes_are p k g.init (recursion_from_All (InitIn (length p.globals)) g.init are.0.init)) (globals_are p (k + 1) gs are.1)
-
 named_in : (p : ProgramData) → IsWhole p → (c : Inclusion) → Contains (asked p) c → IsSite p c
 named_in p whole c =
     All-contains (IsSite p) (asked p) c (All-from_recursion (IsSite p) (asked p)
-    (both_each (IsSite p) (asked_by_globals 0 p.globals) (asked_by_funcs p 0 p.funcs)
-    (globals_are p 0 p.globals (recursion_from_All (IsGlobalOf (length p.globals)) p.globals whole.globals))
-    (funcs_are p 0 p.funcs (λ i. let e : i ≡ 0 + i = omega arith in ap (slice_get p.funcs) (sym e)))))
+    (each_append (IsSite p) (asked_by_globals 0 p.globals) (asked_by_funcs p 0 p.funcs)
+    (each_part (λ k g. flat_map (asked_by_byte k) g.init) asked_by_globals (λ k. refl, λ k g gs. refl) (IsSite p) p.globals
+    (λ k g at. bytes_are p k g.init (recursion_from_All (InitIn (length p.globals)) g.init (all_at (IsGlobalOf (length p.globals)) p.globals k g whole.globals at).init)))
+    (each_part (λ k f. asked_from p (record { 0 = k }) 0 f.nodes) (asked_by_funcs p) (λ k. refl, λ k f fs. refl) (IsSite p) p.funcs
+    (λ k f at. nodes_are p (record { 0 = k }) f at))))
 
 -- ---- pointers
 
-points_both : (p : ProgramData) → IsWhole p → (h : Holder) (s : Site) → PointsTo p h s → IsIn p h → Contains (sites p) s × IsIn p (Bytes s)
+pub points_both : (p : ProgramData) → IsWhole p → (h : Holder) (s : Site) → PointsTo p h s → IsIn p h → Contains (sites p) s × IsIn p (Bytes s)
 points_both p whole _ _ (address g) h = (global_in p g h, h)
 points_both p whole h' s (names _ _ c) h = (named_in p whole (Names h' s) c, (asked_in p whole (Names h' s) c).1.1)
 points_both p whole to s (copies from _ _ c x) h = points_both p whole from s x (asked_in p whole (Copies from to) c).0
@@ -214,12 +138,6 @@ pub points_in : (p : ProgramData) → IsWhole p → (h : Holder) (s : Site) → 
 points_in p whole h s x there = (points_both p whole h s x there).0
 
 -- ---- locations
-
-holder_is : (p : ProgramData) (f : FuncId) (a : Operand) → OperandIn (length p.globals) (length (regs_of (func_at p f))) a → IsIn p (holder_in f a)
-holder_is p f (operand.Reg r) h = h
-holder_is p f (operand.Int n) h = tt
-holder_is p f operand.Null h = tt
-holder_is p f (operand.Global g offset) h = h
 
 mapped : (c : Site → Location) (ss : List Site) (s : Site) → Contains ss s → Contains (map c ss) (c s)
 mapped c ss s h = (h.0, omega (arith, h.1, length-map ss c), get_or-map c ss h.0 s (c s) h.1 ∙ ap c h.2)
@@ -252,32 +170,14 @@ changed_in p f n (node.Malloc size result next) l h e =
     let same : location.Life (site.Node f n) ≡ l = cc in subst (λ (m : Location). Contains (locations p) m) same (lives_in p (site.Node f n) (h (site.Node f n) (0, omega arith, refl)))
 changed_in p f n (node.In result next) l h e = let same : location.Input ≡ l = cc in subst (λ (m : Location). Contains (locations p) m) same (input_in p)
 changed_in p f n (node.Put value next) l h e = let same : location.Output ≡ l = cc in subst (λ (m : Location). Contains (locations p) m) same (output_in p)
-changed_in p f n (node.Free pointer next) l h e = absurd (cc)
-changed_in p f n (node.Store value pointer next) l h e = absurd (cc)
-changed_in p f n (node.Copy from to next) l h e = absurd (cc)
-changed_in p f n (node.Bin op b c result next) l h e = absurd (cc)
-changed_in p f n (node.Cmp pred b c result next) l h e = absurd (cc)
-changed_in p f n (node.Cast op b result next) l h e = absurd (cc)
-changed_in p f n (node.Gep base parts result next) l h e = absurd (cc)
-changed_in p f n (node.Select condition b c result next) l h e = absurd (cc)
-changed_in p f n (node.Load pointer result next) l h e = absurd (cc)
-changed_in p f n (node.Call callee args result next) l h e = absurd (cc)
-changed_in p f n (node.Moves sets next) l h e = absurd (cc)
-changed_in p f n (node.Jump next) l h e = absurd (cc)
-changed_in p f n (node.Branch condition first second) l h e = absurd (cc)
-changed_in p f n (node.Switch value cases otherwise) l h e = absurd (cc)
-changed_in p f n (node.Ret value) l h e = absurd (cc)
-changed_in p f n (node.Exit status) l h e = absurd (cc)
-changed_in p f n node.Abort l h e = absurd (cc)
-changed_in p f n (node.Assert args) l h e = absurd (cc)
-changed_in p f n node.Unreachable l h e = absurd (cc)
+changed_in p f n _ l h e = absurd (cc)
 
 node_changes_in : (p : ProgramData) → IsWhole p → (f : FuncId) (n : NodeId) (l : Location) → ChangesAt p f n l → Contains (locations p) l
 node_changes_in p whole f n l h = elim (by_cases p f n (node_at p f n) l refl h) [
   | inl e ↦ changed_in p f n (node_at p f n) l (node_in p f n) e
   | inr more ↦ elim more [
-    | inl w ↦ subst (λ (m : Location). Contains (locations p) m) (sym w.there) (cells_in p w.site (points_in p whole (holder_in f w.pointer) w.site w.points (holder_is p f w.pointer (written_reads (OperandIn (length p.globals) (length (regs_of (func_at p f)))) (node_at p f n) w.pointer (node_reads p f n whole) w.through))))
-    | inr w ↦ subst (λ (m : Location). Contains (locations p) m) (sym w.there) (lives_in p w.site (points_in p whole (holder_in f w.pointer) w.site w.points (holder_is p f w.pointer (freed_reads (OperandIn (length p.globals) (length (regs_of (func_at p f)))) (node_at p f n) w.pointer (node_reads p f n whole) w.through))))
+    | inl w ↦ subst (λ (m : Location). Contains (locations p) m) (sym w.there) (cells_in p w.site (points_in p whole (holder_in f w.pointer) w.site w.points (operand_in p f w.pointer (written_reads (OperandIn (length p.globals) (length (regs_of (func_at p f)))) (node_at p f n) w.pointer (node_reads p f n whole) w.through))))
+    | inr w ↦ subst (λ (m : Location). Contains (locations p) m) (sym w.there) (lives_in p w.site (points_in p whole (holder_in f w.pointer) w.site w.points (operand_in p f w.pointer (freed_reads (OperandIn (length p.globals) (length (regs_of (func_at p f)))) (node_at p f n) w.pointer (node_reads p f n whole) w.through))))
   ]
 ]
 

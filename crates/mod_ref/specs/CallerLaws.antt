@@ -13,7 +13,7 @@ use Rattle.flat_ir.specs.declared.names.NodeId.{NodeId}
 use Rattle.flat_ir.specs.declared.names.Location.{Location}
 use Rattle.flat_ir.specs.declared.program.ProgramData.{ProgramData}
 use Rattle.flat_ir.specs.Machine.{node_at, nodes_of}
-use Rattle.mod_ref.specs.Changes.{ChangesAt, Changes, itself, within}
+use Rattle.mod_ref.specs.Changes.{Changes, itself, within}
 use Rattle.points_to.specs.Within.{callee_of}
 use Rattle.mod_ref.specs.Callers.{AreOwn, FiresAt}
 

@@ -10,7 +10,6 @@ use Rattle.flat_ir.specs.declared.nodes.Operand.{Operand}
 use Rattle.flat_ir.specs.declared.nodes.Node.{Node}
 use Rattle.flat_ir.specs.declared.nodes.Node.TheVariants as node
 use Rattle.flat_ir.specs.declared.program.ProgramData.{ProgramData}
-use Rattle.flat_ir.specs.History.{Change, Write, Alloc, Free, Get, Put, site_of}
 use Rattle.flat_ir.specs.Machine.{node_at}
 use Rattle.flat_ir.specs.Steps.{is_malloc}
 use Rattle.points_to.specs.Asked.{holder_in}

@@ -1,9 +1,12 @@
 -- What a whole program asks speaks of its own registers, functions, nodes and globals.
 use Rattle.std.specs.Prelude.{slice_get, map, take}
-use Rattle.std.proofs.Common.{◌≡◌, ◌<◌, ◌≤◌, ◌+◌, ◌^◌, ℕ, zero, suc, List, [], ◌∷◌, ◌++◌, length, Option, Some, None, refl, sym, ap, subst, arith}
+use Rattle.std.proofs.Common.{◌≡◌, ◌<◌, ◌≤◌, ◌+◌, ◌^◌, ℕ, zero, suc, List, [], ◌∷◌, length, Option, Some, None, refl, sym, subst, arith}
 use Rattle.std.specs.List.{Contains, flat_map, AllByRecursion as Each}
 use Rattle.std.proofs.lemmas.List.Elements.{recursion_from_All, All-from_recursion, All-contains}
-use Rattle.std.proofs.lemmas.Option.{slice_get_within, get_or_from_slice_get}
+use Rattle.std.proofs.lemmas.Option.{slice_get_within}
+use Rattle.flat_ir.proofs.MadeBasics.{each_append}
+use Rattle.points_to.proofs.Parts.{all_at, each_part}
+use Rattle.points_to.proofs.Containing.{func_of, node_of}
 use Rattle.flat_ir.specs.declared.names.FuncId.{FuncId}
 use Rattle.flat_ir.specs.declared.names.NodeId.{NodeId}
 use Rattle.flat_ir.specs.declared.names.RegId.{RegId}
@@ -17,14 +20,13 @@ use Rattle.flat_ir.specs.declared.nodes.Operand.TheVariants as operand
 use Rattle.flat_ir.specs.declared.nodes.RegType.{RegType}
 use Rattle.flat_ir.specs.declared.nodes.RegType.TheVariants as type
 use Rattle.flat_ir.specs.declared.program.Func.{Func}
-use Rattle.flat_ir.specs.declared.program.GlobalVar.{GlobalVar}
 use Rattle.flat_ir.specs.declared.program.InitByte.{InitByte}
 use Rattle.flat_ir.specs.declared.program.InitByte.TheVariants as init
 use Rattle.flat_ir.specs.declared.program.ProgramData.{ProgramData}
 use Rattle.flat_ir.specs.Machine.{func_at, regs_of, nodes_of, type_at}
-use Rattle.flat_ir.specs.Whole.{IsWhole, IsFuncOf, IsNodeOf, IsGlobalOf, InitIn, OperandIn, operands_of, results_of}
+use Rattle.flat_ir.specs.Whole.{IsWhole, IsNodeOf, IsGlobalOf, InitIn, OperandIn, operands_of, results_of}
 use Rattle.points_to.specs.declared.holders.Holder.{Holder}
-use Rattle.points_to.specs.declared.holders.Holder.TheVariants.{Register, Returned, Bytes, Address, Nothing}
+use Rattle.points_to.specs.declared.holders.Holder.TheVariants.{Bytes, Address}
 use Rattle.points_to.specs.declared.holders.Inclusion.{Inclusion}
 use Rattle.points_to.specs.declared.holders.Inclusion.TheVariants.{Names, Copies, Loads, Stores, Moves}
 use Rattle.points_to.specs.Asked.{holder_in, made_in, loaded_in, moved_in, passed_in, received_in, returned_in, asked_by, asked_from, asked_by_funcs, asked_by_byte, asked_by_globals, asked}
@@ -40,16 +42,12 @@ IsAskedIn p (Loads q to) = IsIn p q × (IsIn p to × IsStored to)
 IsAskedIn p (Stores from q) = IsIn p from × IsIn p q
 IsAskedIn p (Moves from to) = IsIn p from × IsIn p to
 
-pub both_each : {A : Type 0} (P : A → Type 0) → (xs ys : List A) → Each P xs → Each P ys → Each P (xs ++ ys)
-both_each P [] ys xs' ys' = ys'
-both_each P (x ∷ xs) ys xs' ys' = (xs'.0, both_each P xs ys xs'.1 ys')
-
 each_take : {A : Type 0} (P : A → Type 0) → (n : ℕ) (xs : List A) → Each P xs → Each P (take n xs)
 each_take P zero xs all = tt
 each_take P (suc n) [] all = tt
 each_take P (suc n) (x ∷ xs) all = (all.0, each_take P n xs all.1)
 
-operand_in : (p : ProgramData) (f : FuncId) (a : Operand) → OperandIn (length p.globals) (length (regs_of (func_at p f))) a → IsIn p (holder_in f a)
+pub operand_in : (p : ProgramData) (f : FuncId) (a : Operand) → OperandIn (length p.globals) (length (regs_of (func_at p f))) a → IsIn p (holder_in f a)
 operand_in p f (operand.Reg r) h = h
 operand_in p f (operand.Int n) h = tt
 operand_in p f operand.Null h = tt
@@ -113,79 +111,34 @@ node_is p f n (node.Load pointer result next) there here' is reads sets = loaded
 node_is p f n (node.Store value pointer next) there here' is reads sets = ((operand_in p f value reads.0, operand_in p f pointer reads.1.0), tt)
 node_is p f n (node.Copy from to next) there here' is reads sets = ((operand_in p f from reads.0, operand_in p f to reads.1.0), tt)
 node_is p f n (node.Call callee args result next) there here' is reads sets =
-    both_each (IsAskedIn p) (passed_in f callee 0 (take (length (regs_of (func_at p callee))) args)) (received_in f callee result)
+    each_append (IsAskedIn p) (passed_in f callee 0 (take (length (regs_of (func_at p callee))) args)) (received_in f callee result)
     (passed_is p f callee 0 (length (regs_of (func_at p callee))) args reads (omega arith)) (received_is p f callee result is.names (one_result p f result sets))
 node_is p f n (node.Moves ms next) there here' is reads sets = moved_is p f ms reads sets
 node_is p f n (node.Ret value) there here' is reads sets = returned_is p f value there (one_value p f value reads)
-node_is p f n (node.Bin op a b result next) there here' is reads sets = tt
-node_is p f n (node.Cmp pred a b result next) there here' is reads sets = tt
-node_is p f n (node.Cast op a result next) there here' is reads sets = tt
-node_is p f n (node.Free pointer next) there here' is reads sets = tt
-node_is p f n (node.In result next) there here' is reads sets = tt
-node_is p f n (node.Put value next) there here' is reads sets = tt
-node_is p f n (node.Jump next) there here' is reads sets = tt
-node_is p f n (node.Branch condition first second) there here' is reads sets = tt
-node_is p f n (node.Switch value cases otherwise) there here' is reads sets = tt
-node_is p f n (node.Exit status) there here' is reads sets = tt
-node_is p f n node.Abort there here' is reads sets = tt
-node_is p f n (node.Assert args) there here' is reads sets = tt
-node_is p f n node.Unreachable there here' is reads sets = tt
+node_is p f n _ there here' is reads sets = tt
 
--- what the nodes of a function ask, from the k-th on
-nodes_are : (p : ProgramData) (f : FuncId) (k : ℕ) (xs : List Node) → f.0 < length p.funcs → k + length xs ≡ length (nodes_of (func_at p f))
-    → Each (IsNodeOf (length p.globals) (length p.funcs) (length (regs_of (func_at p f))) (length (nodes_of (func_at p f)))) xs → Each (IsAskedIn p) (asked_from p f k xs)
-nodes_are p f k [] there size are = tt
-nodes_are p f k (x ∷ xs) there size are =
-    both_each (IsAskedIn p) (asked_by p f (record { 0 = k }) x) (asked_from p f (k + 1) xs)
-    (node_is p f (record { 0 = k }) x there (omega (arith, size)) are.0 (recursion_from_All (Reads p f) (operands_of x) are.0.operands) (recursion_from_All (Sets p f) (results_of x) are.0.results))
-    (nodes_are p f (k + 1) xs there (omega (arith, size)) are.1)
-
--- the functions from the k-th on
-abbrev pub Follow : {A : Type 0} → List A → ℕ → List A → Type 0
-Follow all k xs = (i : ℕ) → slice_get all (k + i) ≡ slice_get xs i
-
-pub follow_head : {A : Type 0} (all : List A) (k : ℕ) (x : A) (xs : List A) → Follow all k (x ∷ xs) → slice_get all k ≡ Some x
-follow_head all k x xs follow = let e : k + 0 ≡ k = omega arith in subst (λ (n : ℕ). slice_get all n ≡ Some x) e (follow 0)
-
-pub follow_tail : {A : Type 0} (all : List A) (k : ℕ) (x : A) (xs : List A) → Follow all k (x ∷ xs) → Follow all (k + 1) xs
-follow_tail all k x xs follow i = let e : k + suc i ≡ k + 1 + i = omega arith in subst (λ (n : ℕ). slice_get all n ≡ slice_get xs i) e (follow (suc i))
-
-func_is : (p : ProgramData) (k : ℕ) (func : Func) → slice_get p.funcs k ≡ Some func → k < length p.funcs → IsFuncOf (length p.globals) (length p.funcs) func
-    → Each (IsAskedIn p) (asked_from p (record { 0 = k }) 0 func.nodes)
-func_is p k func at there is =
-    let f : FuncId = record { 0 = k } in
-    let nodes : nodes_of (func_at p f) ≡ func.nodes = ap nodes_of at in
-    let regs : regs_of (func_at p f) ≡ func.regs = ap regs_of at in
-    let N : ℕ → ℕ → Type 0 = λ r n. Each (IsNodeOf (length p.globals) (length p.funcs) r n) func.nodes in
-    nodes_are p f 0 func.nodes there (omega (arith, ap length (sym nodes)))
-    (subst (λ (r : ℕ). N r (length (nodes_of (func_at p f)))) (ap length (sym regs))
-    (subst (λ (n : ℕ). N (length func.regs) n) (ap length (sym nodes)) (recursion_from_All (IsNodeOf (length p.globals) (length p.funcs) (length func.regs) (length func.nodes)) func.nodes is.nodes)))
-
-funcs_are : (p : ProgramData) (k : ℕ) (fs : List Func) → Follow p.funcs k fs → k + length fs ≡ length p.funcs → Each (IsFuncOf (length p.globals) (length p.funcs)) fs
-    → Each (IsAskedIn p) (asked_by_funcs p k fs)
-funcs_are p k [] follow size are = tt
-funcs_are p k (f ∷ fs) follow size are =
-    both_each (IsAskedIn p) (asked_from p (record { 0 = k }) 0 f.nodes) (asked_by_funcs p (k + 1) fs)
-    (func_is p k f (follow_head p.funcs k f fs follow) (omega (arith, size)) are.0)
-    (funcs_are p (k + 1) fs (follow_tail p.funcs k f fs follow) (omega (arith, size)) are.1)
+-- what the nodes of a function ask
+nodes_are : (p : ProgramData) → IsWhole p → (f : FuncId) (func : Func) → slice_get p.funcs f.0 ≡ Some func → Each (IsAskedIn p) (asked_from p f 0 func.nodes)
+nodes_are p whole f func at =
+    each_part (λ k. asked_by p f (record { 0 = k })) (asked_from p f) (λ k. refl, λ k x xs. refl) (IsAskedIn p) func.nodes
+    (λ n x there. let is = node_of p whole f func n x at there in
+    node_is p f (record { 0 = n }) x (slice_get_within p.funcs f.0 func at)
+    (subst (λ (o : Option Func). n < length (nodes_of o)) (sym at) (slice_get_within func.nodes n x there)) is
+    (recursion_from_All (Reads p f) (operands_of x) is.operands) (recursion_from_All (Sets p f) (results_of x) is.results))
 
 bytes_are : (p : ProgramData) (g : ℕ) (bs : List InitByte) → g < length p.globals → Each (InitIn (length p.globals)) bs → Each (IsAskedIn p) (flat_map (asked_by_byte g) bs)
 bytes_are p g [] there are = tt
 bytes_are p g (init.Int b ∷ bs) there are = bytes_are p g bs there are.1
 bytes_are p g (init.PtrByte h offset j ∷ bs) there are = ((there, (tt, are.0.0)), bytes_are p g bs there are.1)
 
-globals_are : (p : ProgramData) (k : ℕ) (gs : List GlobalVar) → k + length gs ≡ length p.globals → Each (IsGlobalOf (length p.globals)) gs → Each (IsAskedIn p) (asked_by_globals k gs)
-globals_are p k [] size are = tt
-globals_are p k (g ∷ gs) size are =
-    both_each (IsAskedIn p) (flat_map (asked_by_byte k) g.init) (asked_by_globals (k + 1) gs)
-    (bytes_are p k g.init (omega (arith, size)) (recursion_from_All (InitIn (length p.globals)) g.init are.0.init))
-    (globals_are p (k + 1) gs (omega (arith, size)) are.1)
-
 all_asked_in : (p : ProgramData) → IsWhole p → Each (IsAskedIn p) (asked p)
 all_asked_in p whole =
-    both_each (IsAskedIn p) (asked_by_globals 0 p.globals) (asked_by_funcs p 0 p.funcs)
-    (globals_are p 0 p.globals (omega arith) (recursion_from_All (IsGlobalOf (length p.globals)) p.globals whole.globals))
-    (funcs_are p 0 p.funcs (λ i. let e : i ≡ 0 + i = omega arith in ap (slice_get p.funcs) (sym e)) (omega arith) (recursion_from_All (IsFuncOf (length p.globals) (length p.funcs)) p.funcs whole.funcs))
+    each_append (IsAskedIn p) (asked_by_globals 0 p.globals) (asked_by_funcs p 0 p.funcs)
+    (each_part (λ k g. flat_map (asked_by_byte k) g.init) asked_by_globals (λ k. refl, λ k g gs. refl) (IsAskedIn p) p.globals
+    (λ k g at. bytes_are p k g.init (slice_get_within p.globals k g at)
+    (recursion_from_All (InitIn (length p.globals)) g.init (all_at (IsGlobalOf (length p.globals)) p.globals k g whole.globals at).init)))
+    (each_part (λ k f. asked_from p (record { 0 = k }) 0 f.nodes) (asked_by_funcs p) (λ k. refl, λ k f fs. refl) (IsAskedIn p) p.funcs
+    (λ k f at. nodes_are p whole (record { 0 = k }) f at))
 
 -- what a whole program asks speaks of its own
 pub asked_in : (p : ProgramData) → IsWhole p → (c : Inclusion) → Contains (asked p) c → IsAskedIn p c
@@ -193,10 +146,7 @@ asked_in p whole c = All-contains (IsAskedIn p) (asked p) c (All-from_recursion 
 
 few_regs : (p : ProgramData) → IsWhole p → (f : FuncId) → (o : Option Func) → slice_get p.funcs f.0 ≡ o → (length (regs_of o) ≤ 2 ^ 32) × (length (nodes_of o) ≤ 2 ^ 32)
 few_regs p whole f None e = (omega arith, omega arith)
-few_regs p whole f (Some func) e =
-    let F : Func → Type 0 = IsFuncOf (length p.globals) (length p.funcs) in
-    let is : F func = subst F (get_or_from_slice_get p.funcs f.0 func func e) (whole.funcs f.0 func (slice_get_within p.funcs f.0 func e)) in
-    (is.few_regs, is.few_nodes)
+few_regs p whole f (Some func) e = let is = func_of p whole f func e in (is.few_regs, is.few_nodes)
 
 pub few_at : (p : ProgramData) → IsWhole p → (f : FuncId) → (length (regs_of (func_at p f)) ≤ 2 ^ 32) × (length (nodes_of (func_at p f)) ≤ 2 ^ 32)
 few_at p whole f = few_regs p whole f (func_at p f) refl
@@ -212,11 +162,8 @@ site_small p whole (site.Global g) h = omega (arith, h, whole.few_globals)
 site_small p whole (site.Node f n) h = (omega (arith, there_is p f n.0 (func_at p f) refl h, whole.few_funcs), omega (arith, h, (few_at p whole f).1))
 
 holder_small : (p : ProgramData) → IsWhole p → (h : Holder) → IsIn p h → IsSmallHolder h
-holder_small p whole (Register f r) h = tt
-holder_small p whole (Returned f) h = tt
-holder_small p whole (Bytes s) h = tt
 holder_small p whole (Address g) h = omega (arith, h, whole.few_globals)
-holder_small p whole Nothing h = tt
+holder_small p whole _ h = tt
 
 small_in : (p : ProgramData) → IsWhole p → (c : Inclusion) → IsAskedIn p c → IsSmallIn c
 small_in p whole (Names h s) is = site_small p whole s is.1.1

@@ -57,11 +57,9 @@ the_register_holds_it = loads (Address 0) (of_main 1) (site.Global 0) mains_firs
 -- and that is all
 abbrev All' : Holder → Site → Type 0
 All' (Register f k) s = s ≡ mains_first
-All' (Returned f) s = ⊥
 All' (Bytes (site.Global g)) s = s ≡ mains_first
-All' (Bytes (site.Node f n)) s = ⊥
 All' (Address g) s = s ≡ site.Global g
-All' Nothing s = ⊥
+All' _ s = ⊥
 
 global_bytes : (g : ℕ) (t s : Site) → t ≡ site.Global g → s ≡ mains_first → All' (Bytes t) s
 global_bytes g t s e e' = subst (λ (u : Site). All' (Bytes u) s) (sym e) e'

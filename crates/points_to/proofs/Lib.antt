@@ -1,3 +1,4 @@
+pub mod Parts
 pub mod Growing
 pub mod Inserting
 pub mod Putting

@@ -3,7 +3,7 @@ use Rattle.std.specs.Prelude.{slice_get, slice_set, unwrap_or, map, drop, take, 
 use Rattle.std.specs.Option.{option_map}
 use Rattle.std.proofs.Common.{◌≡◌, ◌+◌, ℕ, zero, suc, true, false, ◌&&◌, List, [], ◌∷◌, ◌++◌, length, Option, Some, None, refl, sym, ap, subst, arith}
 use Rattle.std.specs.List.{Contains, AllByRecursion as Each}
-use Rattle.std.proofs.lemmas.List.Elements.{Contains-append_left, Contains-append_right, Contains-push}
+use Rattle.std.proofs.lemmas.List.Elements.{Contains-append_left, Contains-append_right}
 use Rattle.flat_ir.specs.declared.names.FuncId.{FuncId}
 use Rattle.flat_ir.specs.declared.names.NodeId.{NodeId}
 use Rattle.flat_ir.specs.declared.names.RegId.{RegId}
@@ -36,7 +36,8 @@ use Rattle.flat_ir.specs.Steps.{attempt, unless, with_frame, number_in, address_
 use Rattle.flat_ir.specs.Run.{step, run, goes_on, step-attempt, run-zero, run-suc}
 use Rattle.flat_ir.specs.Whole.{IsWhole, OperandIn, operands_of}
 use Rattle.bitnum.specs.Operations.{applied}
-use Rattle.flat_ir.proofs.MadeBasics.{each_append, each_reverse}
+use Rattle.flat_ir.proofs.MadeBasics.{each_reverse}
+use Rattle.points_to.proofs.Parts.{first, second, each_part}
 use Rattle.points_to.specs.declared.holders.Holder.{Holder}
 use Rattle.points_to.specs.declared.holders.Holder.TheVariants.{Register, Returned, Bytes}
 use Rattle.points_to.specs.declared.holders.Inclusion.{Inclusion}
@@ -104,12 +105,6 @@ with_bytes p s regs h w new bytes = record { registers = new; waiting = w.waitin
 sets : (p : ProgramData) (s : State) (r : RegId) (v : ConcreteValue) → IsWithin p s → PointsWithin p (Register s.frame.func r) v → Within p s.frame.func (slice_set s.frame.regs r.0 v) s.callers s.history
 sets p s r v w it = with_regs p s (slice_set s.frame.regs r.0 v) w (register_set p s.frame.func s.frame.regs r v w.registers it)
 
-first' : {X : Type 0} (x : X) (xs : List X) → Contains (x ∷ xs) x
-first' x xs = Contains-append_left (x ∷ []) xs x (Contains-push [] x)
-
-second' : {X : Type 0} (x y : X) (xs : List X) → Contains (x ∷ y ∷ xs) y
-second' x y xs = Contains-append_right (x ∷ []) (y ∷ xs) y (first' y xs)
-
 -- malloc
 malloc_within : (p : ProgramData) (s : State) (size : ℕ) (result : Option RegId) (next : NodeId) → IsWithin p s
     → ((c : Inclusion) → Contains (made_in s.frame.func s.frame.node result) c → Contains (asked p) c) → RunWithin p (gives_if result (new_here s) next (allocated size s))
@@ -117,7 +112,7 @@ malloc_within p s size None next w asks = with_bytes p s s.frame.regs (allocated
 malloc_within p s size (Some r) next w asks =
     with_bytes p s (slice_set s.frame.regs r.0 (new_here s)) (allocated size s).history w
     (register_set p s.frame.func s.frame.regs r (new_here s) w.registers
-    (names (Register s.frame.func r) (site.Node s.frame.func s.frame.node) (asks (Names (Register s.frame.func r) (site.Node s.frame.func s.frame.node)) (first' _ [])))) w.bytes
+    (names (Register s.frame.func r) (site.Node s.frame.func s.frame.node) (asks (Names (Register s.frame.func r) (site.Node s.frame.func s.frame.node)) (first _ [])))) w.bytes
 
 null_within : (p : ProgramData) (s : State) (result : Option RegId) (next : NodeId) → IsWithin p s → RunWithin p (gives_if result (Ptr null) next s)
 null_within p s None next w = w
@@ -161,7 +156,7 @@ initial_within : (p : ProgramData) (g k : ℕ) (var : GlobalVar) (o : Option Ini
 initial_within p g k var None at e = tt
 initial_within p g k var (Some (init.Int b)) at e = tt
 initial_within p g k var (Some (init.PtrByte h offset j)) at e =
-    names (Bytes (site.Global g)) (site.Global h) (byte_asked p g k var (init.PtrByte h offset j) (Names (Bytes (site.Global g)) (site.Global h)) at e (first' _ []))
+    names (Bytes (site.Global g)) (site.Global h) (byte_asked p g k var (init.PtrByte h offset j) (Names (Bytes (site.Global g)) (site.Global h)) at e (first _ []))
 
 global_within : (p : ProgramData) (g k : ℕ) (o : Option GlobalVar) → slice_get p.globals g ≡ o → ByteWithin p (Bytes (site.Global g)) (initial_of o k)
 global_within p g k None at = tt
@@ -225,7 +220,7 @@ loaded_at p h f type.Ptr pointer r None offset bytes target asks =
     pointer_option p (Register f r) (first_of 8 0 (λ j. cut (int 8 0) 0)) (first_within p (Register f r) 8 0 (λ j. cut (int 8 0) 0) (λ j. tt))
 loaded_at p h f type.Ptr pointer r (Some x) offset bytes target asks =
     let there : ℕ → ConcreteByte = λ j. byte_at p h x ((offset + j) % 2 ^ 64) in
-    option_loaded p (holder_in f pointer) (Register f r) x (joined_pointer (first_of 8 0 there)) (asks (Loads (holder_in f pointer) (Register f r)) (first' _ [])) target
+    option_loaded p (holder_in f pointer) (Register f r) x (joined_pointer (first_of 8 0 there)) (asks (Loads (holder_in f pointer) (Register f r)) (first _ [])) target
     (pointer_option p (Bytes (site_of x)) (first_of 8 0 there) (first_within p (Bytes (site_of x)) 8 0 there (λ j. byte_within p h x ((offset + j) % 2 ^ 64) bytes)))
 
 gives_within : (p : ProgramData) (s : State) (o : Option ConcreteValue) (r : RegId) (next : NodeId) → IsWithin p s → OptionWithin p (Register s.frame.func r) o → RunWithin p (gives_loaded o r next s)
@@ -259,7 +254,7 @@ moves_within p s f next (m ∷ ms) w same regs values asks =
     let move = Copies (holder_in s.frame.func m.value) (Register s.frame.func m.register) in
     moves_within p s (record f { regs = slice_set f.regs m.register.0 (value_in s.frame m.value) }) next ms w same
     (register_set p s.frame.func f.regs m.register (value_in s.frame m.value) regs
-    (value_copied p (holder_in s.frame.func m.value) (Register s.frame.func m.register) (value_in s.frame m.value) (asks move (first' move (moved_in s.frame.func ms))) values.0))
+    (value_copied p (holder_in s.frame.func m.value) (Register s.frame.func m.register) (value_in s.frame m.value) (asks move (first move (moved_in s.frame.func ms))) values.0))
     values.1 (λ c h. asks c (Contains-append_right (move ∷ []) (moved_in s.frame.func ms) c h))
 
 -- the registers of the frame that a call makes
@@ -278,7 +273,7 @@ passed_within p g callee ts k (suc n) (a ∷ as') size values asks zero =
     let e : k ≡ k + 0 = omega arith in
     let move = Copies (holder_in g.func a) (Register callee (record { 0 = k })) in
     λ lt. subst (λ (i : ℕ). PointsWithin p (Register callee (record { 0 = i })) (value_in g a)) e
-    (value_copied p (holder_in g.func a) (Register callee (record { 0 = k })) (value_in g a) (asks move (first' move (passed_in g.func callee (k + 1) (take n as')))) values.0)
+    (value_copied p (holder_in g.func a) (Register callee (record { 0 = k })) (value_in g a) (asks move (first move (passed_in g.func callee (k + 1) (take n as')))) values.0)
 passed_within p g callee ts k (suc n) (a ∷ as') size values asks (suc j) =
     let e : k + 1 + j ≡ k + suc j = omega arith in
     let move = Copies (holder_in g.func a) (Register callee (record { 0 = k })) in
@@ -288,18 +283,12 @@ passed_within p g callee ts k (suc n) (a ∷ as') size values asks (suc j) =
 -- what a frame frees at its end
 abbrev IsFree : Change → Type 0
 IsFree (Free x) = Unit {0}
-IsFree (Write x k b) = ⊥
-IsFree (Alloc x size) = ⊥
-IsFree Get = ⊥
-IsFree (Put b) = ⊥
+IsFree _ = ⊥
 
 only_frees : (p : ProgramData) (cs : List Change) (h : History) → Each IsFree cs → BytesWithin p h → BytesWithin p (cs ++ h)
 only_frees p [] h all w = w
 only_frees p (Free x ∷ cs) h all w = only_frees p cs h all.1 w
-only_frees p (Write x k b ∷ cs) h all w = absurd all.0
-only_frees p (Alloc x size ∷ cs) h all w = absurd all.0
-only_frees p (Get ∷ cs) h all w = absurd all.0
-only_frees p (Put b ∷ cs) h all w = absurd all.0
+only_frees p _ h all w = absurd all.0
 
 node_frees : (f : Frame) (n : NodeId) (more k : ℕ) → Each IsFree (frees_of_node f n more k)
 node_frees f n zero k = tt
@@ -307,32 +296,12 @@ node_frees f n (suc more) k = (tt, node_frees f n more (k + 1))
 
 at_frees : (f : Frame) (n : NodeId) (count : ℕ) (x : Node) → Each IsFree (frees_at f n count x)
 at_frees f n count (node.Alloca size result next) = node_frees f n count 1
-at_frees f n count (node.Bin op a b result next) = tt
-at_frees f n count (node.Cmp pred a b result next) = tt
-at_frees f n count (node.Cast op a result next) = tt
-at_frees f n count (node.Gep base parts result next) = tt
-at_frees f n count (node.Select condition a b result next) = tt
-at_frees f n count (node.Malloc size result next) = tt
-at_frees f n count (node.Free pointer next) = tt
-at_frees f n count (node.Load pointer result next) = tt
-at_frees f n count (node.Store value pointer next) = tt
-at_frees f n count (node.Copy from to next) = tt
-at_frees f n count (node.In result next) = tt
-at_frees f n count (node.Put value next) = tt
-at_frees f n count (node.Call callee args result next) = tt
-at_frees f n count (node.Moves ms next) = tt
-at_frees f n count (node.Jump next) = tt
-at_frees f n count (node.Branch condition first second) = tt
-at_frees f n count (node.Switch value cases otherwise) = tt
-at_frees f n count (node.Ret value) = tt
-at_frees f n count (node.Exit status) = tt
-at_frees f n count node.Abort = tt
-at_frees f n count (node.Assert args) = tt
-at_frees f n count node.Unreachable = tt
+at_frees f n count _ = tt
 
-from_frees : (f : Frame) (k : ℕ) (ns : List Node) → Each IsFree (frees_from f k ns)
-from_frees f k [] = tt
-from_frees f k (n ∷ ns) = each_append IsFree (frees_at f (record { 0 = k }) (unwrap_or (slice_get f.counts k) 0) n) (frees_from f (k + 1) ns) (at_frees f (record { 0 = k }) (unwrap_or (slice_get f.counts k) 0) n) (from_frees f (k + 1) ns)
+from_frees : (f : Frame) (ns : List Node) → Each IsFree (frees_from f 0 ns)
+from_frees f ns =
+    each_part (λ k x. frees_at f (record { 0 = k }) (unwrap_or (slice_get f.counts k) 0) x) (frees_from f) (λ k. refl, λ k x xs. refl) IsFree ns
+    (λ k x at. at_frees f (record { 0 = k }) (unwrap_or (slice_get f.counts k) 0) x)
 
 -- the caller receives what its call returns
 received : (p : ProgramData) (g : Frame) (f : FuncId) (call : Node) (v : ConcreteValue) → callee_of call ≡ Some f → ((c : Inclusion) → Contains (asked_by p g.func g.node call) c → Contains (asked p) c)
@@ -343,30 +312,9 @@ received p g f (node.Call callee args (Some r) next) v calls asks w it =
     let receive = Copies (Returned callee) (Register g.func r) in
     register_set p g.func g.regs r v w
     (value_copied p (Returned callee) (Register g.func r) v
-    (asks receive (Contains-append_right (passed_in g.func callee 0 (take (length (regs_of (func_at p callee))) args)) (receive ∷ []) receive (first' receive [])))
+    (asks receive (Contains-append_right (passed_in g.func callee 0 (take (length (regs_of (func_at p callee))) args)) (receive ∷ []) receive (first receive [])))
     (subst (λ (h : FuncId). PointsWithin p (Returned h) v) (sym same) it))
-received p g f (node.Bin op a b result next) v calls asks w it = cc
-received p g f (node.Cmp pred a b result next) v calls asks w it = cc
-received p g f (node.Cast op a result next) v calls asks w it = cc
-received p g f (node.Gep base parts result next) v calls asks w it = cc
-received p g f (node.Select condition a b result next) v calls asks w it = cc
-received p g f (node.Alloca size result next) v calls asks w it = cc
-received p g f (node.Malloc size result next) v calls asks w it = cc
-received p g f (node.Free pointer next) v calls asks w it = cc
-received p g f (node.Load pointer result next) v calls asks w it = cc
-received p g f (node.Store value pointer next) v calls asks w it = cc
-received p g f (node.Copy from to next) v calls asks w it = cc
-received p g f (node.In result next) v calls asks w it = cc
-received p g f (node.Put value next) v calls asks w it = cc
-received p g f (node.Moves ms next) v calls asks w it = cc
-received p g f (node.Jump next) v calls asks w it = cc
-received p g f (node.Branch condition first second) v calls asks w it = cc
-received p g f (node.Switch value cases otherwise) v calls asks w it = cc
-received p g f (node.Ret value) v calls asks w it = cc
-received p g f (node.Exit status) v calls asks w it = cc
-received p g f node.Abort v calls asks w it = cc
-received p g f (node.Assert args) v calls asks w it = cc
-received p g f node.Unreachable v calls asks w it = cc
+received p g f _ v calls asks w it = cc
 
 pub result_func : (r : Option RegId) (v : Option ConcreteValue) (g : Frame) → (set_result r v g).func ≡ g.func
 result_func r None g = refl
@@ -395,7 +343,7 @@ returned_within : (p : ProgramData) (g : Frame) (value : Option Operand) → Eac
     → ((c : Inclusion) → Contains (returned_in g.func value) c → Contains (asked p) c) → OptionWithin p (Returned g.func) (option_map (value_in g) value)
 returned_within p g None values asks = tt
 returned_within p g (Some a) values asks =
-    value_copied p (holder_in g.func a) (Returned g.func) (value_in g a) (asks (Copies (holder_in g.func a) (Returned g.func)) (first' _ [])) values.0
+    value_copied p (holder_in g.func a) (Returned g.func) (value_in g a) (asks (Copies (holder_in g.func a) (Returned g.func)) (first _ [])) values.0
 
 -- each node stays within the sets
 attempt_within : (p : ProgramData) (input : List ℕ) (n : Node) (s : State) → IsAt p n s → RunWithin p (attempt p input n s)
@@ -406,13 +354,13 @@ attempt_within p input (node.Cmp pred a b result next) s at = sets p s result _ 
 attempt_within p input (node.Cast op a result next) s at = sets p s result _ at.within tt
 attempt_within p input (node.Gep base parts result next) s at =
     sets p s result _ at.within
-    (base_copied p (holder_in s.frame.func base) (Register s.frame.func result) (address_in s base).base (at.asks _ (first' _ []))
+    (base_copied p (holder_in s.frame.func base) (Register s.frame.func result) (address_in s base).base (at.asks _ (first _ []))
     (address_within p (holder_in s.frame.func base) (value_in s.frame base) at.reads.0))
 attempt_within p input (node.Select condition a b result next) s at =
     sets p s result _ at.within
     (elim ((number_in s condition).bits == 1) as (λ t. PointsWithin p (Register s.frame.func result) (if t then value_in s.frame a else value_in s.frame b)) [
-      | true ↦ value_copied p (holder_in s.frame.func a) (Register s.frame.func result) (value_in s.frame a) (at.asks (Copies (holder_in s.frame.func a) (Register s.frame.func result)) (first' (Copies (holder_in s.frame.func a) (Register s.frame.func result)) (Copies (holder_in s.frame.func b) (Register s.frame.func result) ∷ []))) at.reads.1.0
-      | false ↦ value_copied p (holder_in s.frame.func b) (Register s.frame.func result) (value_in s.frame b) (at.asks _ (second' _ _ [])) at.reads.1.1.0
+      | true ↦ value_copied p (holder_in s.frame.func a) (Register s.frame.func result) (value_in s.frame a) (at.asks (Copies (holder_in s.frame.func a) (Register s.frame.func result)) (first (Copies (holder_in s.frame.func a) (Register s.frame.func result)) (Copies (holder_in s.frame.func b) (Register s.frame.func result) ∷ []))) at.reads.1.0
+      | false ↦ value_copied p (holder_in s.frame.func b) (Register s.frame.func result) (value_in s.frame b) (at.asks _ (second _ _ [])) at.reads.1.1.0
     ])
 attempt_within p input (node.Alloca size result next) s at = malloc_within p s size (Some result) next at.within at.asks
 attempt_within p input (node.Malloc size result next) s at =
@@ -433,7 +381,7 @@ attempt_within p input (node.Store value pointer next) s at =
     unless_within p (access_fault p s.history (bytes_of_value v) (address_in s pointer)) s _
     (with_bytes p s s.frame.regs (stored_in (bytes_of_value v) 0 (address_in s pointer) v s.history) at.within at.within.registers
     (stored_within p (bytes_of_value v) 0 (address_in s pointer) v s.history
-    (value_stored p (holder_in s.frame.func value) (holder_in s.frame.func pointer) (address_in s pointer).base v (at.asks _ (first' _ []))
+    (value_stored p (holder_in s.frame.func value) (holder_in s.frame.func pointer) (address_in s pointer).base v (at.asks _ (first _ []))
     (address_within p (holder_in s.frame.func pointer) (value_in s.frame pointer) at.reads.1.0) at.reads.0)
     at.within.bytes))
 attempt_within p input (node.Copy from there next) s at =
@@ -441,7 +389,7 @@ attempt_within p input (node.Copy from there next) s at =
     (unless_within p (access_fault p s.history 1 (address_in s there)) s _
     (with_bytes p s s.frame.regs (written_in (address_in s there) (byte_there p s.history (address_in s from) 0) 0 s.history) at.within at.within.registers
     (copied_within p s.history (holder_in s.frame.func from) (holder_in s.frame.func there) (address_in s from).base (address_in s there).base
-    (((address_in s from).offset + 0) % 2 ^ 64) (((address_in s there).offset + 0) % 2 ^ 64) at.within.bytes (at.asks _ (first' _ []))
+    (((address_in s from).offset + 0) % 2 ^ 64) (((address_in s there).offset + 0) % 2 ^ 64) at.within.bytes (at.asks _ (first _ []))
     (address_within p (holder_in s.frame.func from) (value_in s.frame from) at.reads.0)
     (address_within p (holder_in s.frame.func there) (value_in s.frame there) at.reads.1.0))))
 attempt_within p input (node.In result next) s at =
@@ -468,12 +416,9 @@ attempt_within p input (node.Switch value cases otherwise) s at = at.within
 attempt_within p input (node.Ret value) s at =
     returns_within p s.frame.func (option_map (value_in s.frame) value) s.callers (ended p s) at.within.waiting at.within.called
     (only_frees p (reverse (frees_from s.frame 0 (nodes_of (func_at p s.frame.func)))) s.history
-    (each_reverse IsFree (frees_from s.frame 0 (nodes_of (func_at p s.frame.func))) (from_frees s.frame 0 (nodes_of (func_at p s.frame.func)))) at.within.bytes)
+    (each_reverse IsFree (frees_from s.frame 0 (nodes_of (func_at p s.frame.func))) (from_frees s.frame (nodes_of (func_at p s.frame.func)))) at.within.bytes)
     (returned_within p s.frame value at.reads at.asks)
-attempt_within p input (node.Exit status) s at = tt
-attempt_within p input node.Abort s at = tt
-attempt_within p input (node.Assert args) s at = tt
-attempt_within p input node.Unreachable s at = tt
+attempt_within p input _ s at = tt
 
 pub step_within : (p : ProgramData) (input : List ℕ) (s : State) → IsWhole p → IsWithin p s → RunWithin p (step p input s)
 step_within p input s whole w =

@@ -2,7 +2,7 @@
 use Rattle.std.specs.Prelude.{slice_get, slice_set, unwrap_or, map}
 use Rattle.std.proofs.Common.{◌≡◌, ◌<◌, ◌≤◌, ◌+◌, ◌∙◌, ◌==◌, ⊎_elim, ℕ, true, false, List, [], ◌∷◌, Option, Some, refl, sym, ap, subst, arith}
 use Rattle.std.specs.List.{Contains}
-use Rattle.std.proofs.lemmas.Bool.{cases_lt, eqb-true, eq-eqb}
+use Rattle.std.proofs.lemmas.Bool.{cases_lt, eqb-true, eq-eqb, cases_Bool}
 use Rattle.std.proofs.lemmas.Option.{slice_get_past}
 use Rattle.control_closure.specs.Met.{HasEdge, Meets, beyond}
 use Rattle.flat_ir.specs.declared.names.FuncId.{FuncId}
@@ -19,7 +19,7 @@ use Rattle.points_to.specs.Within.{callee_of}
 use Rattle.slices.specs.SliceFacts.{SliceFacts}
 use Rattle.slices.specs.Slice.{Items, Keep, Looks, calls, end_of, leads_to, graph_of, retained}
 use Rattle.slice_laws.specs.Moments.{IsRead, IsQuiet}
-use Rattle.slice_laws.proofs.Lists.{true_or_false, not_both, set_apart, set_both, row_at, none_in, Contains-map}
+use Rattle.slice_laws.proofs.Lists.{not_both, set_apart, set_both, row_at, none_in, Contains-map}
 use Rattle.slice_laws.proofs.Outcomes.{is_plain}
 
 -- the registers that retained nodes read and the counts of retained nodes are a frame's
@@ -136,5 +136,5 @@ pub shows_called : (p : ProgramData) (f : FuncId) (at' : Location) (items : Item
     → callee_of (node_at p frame.func frame.node) ≡ Some callee → new.func ≡ callee → Shows p f items frame rest frame' rest' → Shows p f items new (frame ∷ rest) frame' rest'
 shows_called p f at' items facts frame frame' rest rest' callee new un called is shows =
     let looks : Looks p f frame.func = shows_looks p f items frame frame' rest rest' shows in
-    let quiet : IsQuiet items callee = λ n. ⊎_elim (λ kept. not_both (items (Keep frame.func frame.node)) (facts.calls frame.func frame.node callee n looks called kept) un) (λ no'. no') (true_or_false (items (Keep callee n))) in
+    let quiet : IsQuiet items callee = λ n. ⊎_elim (λ kept. not_both (items (Keep frame.func frame.node)) (facts.calls frame.func frame.node callee n looks called kept) un) (λ no'. no') (cases_Bool (items (Keep callee n))) in
     hidden new frame frame' rest rest' (subst (λ (g : FuncId). Looks p f g) (sym is) (calls frame.func frame.node callee looks called)) (subst (λ (g : FuncId). IsQuiet items g) (sym is) quiet) un shows

@@ -1,6 +1,7 @@
 -- What frames free at their ends.
+use Rattle.std.proofs.lemmas.Bool.{cases_Bool}
 use Rattle.std.specs.Prelude.{slice_get, unwrap_or, reverse}
-use Rattle.std.proofs.Common.{◌≡◌, ◌+◌, ◌∙◌, ⊎_elim, ℕ, zero, suc, false, List, [], ◌∷◌, ◌++◌, Option, refl, sym, ap, arith}
+use Rattle.std.proofs.Common.{◌≡◌, ◌+◌, ◌∙◌, ⊎_elim, ℕ, zero, suc, false, List, [], ◌∷◌, ◌++◌, Option, Some, refl, sym, ap, subst, arith}
 use Rattle.std.specs.List.{filter, AllByRecursion as Each}
 use Rattle.std.proofs.lemmas.List.Elements.{filter-append}
 use Rattle.flat_ir.specs.declared.names.FuncId.{FuncId}
@@ -16,20 +17,29 @@ use Rattle.flat_ir.specs.declared.values.ConcreteValue.{ConcreteValue}
 use Rattle.flat_ir.specs.History.{Change, Free}
 use Rattle.flat_ir.specs.Machine.{Frame, func_at, nodes_of, node_at}
 use Rattle.flat_ir.specs.Steps.{frees_of_node, frees_at, frees_from}
-use Rattle.points_to.proofs.AskedIn.{Follow, follow_head, follow_tail}
 use Rattle.mod_ref.specs.Changes.{ChangesAt, changes, changed_by}
 use Rattle.slices.specs.Slice.{Items, Keep, Need, Looks}
 use Rattle.slices.specs.SliceFacts.{SliceFacts}
-use Rattle.slice_laws.proofs.Lists.{true_or_false, not_both, filter_none, filter_turned}
+use Rattle.slice_laws.proofs.Lists.{not_both, filter_none, filter_turned}
 use Rattle.slice_laws.proofs.Histories.{is_needed}
 use Rattle.slice_laws.specs.Moments.{IsQuiet}
 use Rattle.slice_laws.proofs.Frames.{Alike, twin}
+
+-- what follows from a place on
+abbrev pub Follow : {A : Type 0} → List A → ℕ → List A → Type 0
+Follow all k xs = (i : ℕ) → slice_get all (k + i) ≡ slice_get xs i
+
+follow_head : {A : Type 0} (all : List A) (k : ℕ) (x : A) (xs : List A) → Follow all k (x ∷ xs) → slice_get all k ≡ Some x
+follow_head all k x xs follow = let e : k + 0 ≡ k = omega arith in subst (λ (n : ℕ). slice_get all n ≡ Some x) e (follow 0)
+
+follow_tail : {A : Type 0} (all : List A) (k : ℕ) (x : A) (xs : List A) → Follow all k (x ∷ xs) → Follow all (k + 1) xs
+follow_tail all k x xs follow i = let e : k + suc i ≡ k + 1 + i = omega arith in subst (λ (n : ℕ). slice_get all n ≡ slice_get xs i) e (follow (suc i))
 
 -- what a node that isn't retained changes isn't needed
 pub not_needed : (p : ProgramData) (f : FuncId) (at' : Location) (items : Items) → SliceFacts p f at' items → (g : FuncId) (n : NodeId) (l : Location) → Looks p f g → items (Keep g n) ≡ false
     → ChangesAt p g n l → items (Need l) ≡ false
 not_needed p f at' items facts g n l looks un c =
-    ⊎_elim (λ yes'. not_both (items (Keep g n)) (facts.changes g n l looks c yes') un) (λ no'. no') (true_or_false (items (Need l)))
+    ⊎_elim (λ yes'. not_both (items (Keep g n)) (facts.changes g n l looks c yes') un) (λ no'. no') (cases_Bool (items (Need l)))
 
 -- the objects of an Alloca node that isn't retained
 node_none : (items : Items) (frame : Frame) (n : NodeId) (k times : ℕ) → items (Need (location.Life (site.Node frame.func n))) ≡ false → Each (λ d. is_needed items d ≡ false) (frees_of_node frame n times k)
@@ -60,7 +70,7 @@ from_alike p f at' items facts frame node' regs' counts' looks alike k (x ∷ xs
     let head : filter (is_needed items) its ≡ filter (is_needed items) mine =
     ⊎_elim (λ kept. ap (λ (o : Option ℕ). filter (is_needed items) (frees_at other n (unwrap_or o 0) x)) (alike.counts n kept) ∙ same x (unwrap_or (slice_get frame.counts k) 0))
     (λ un. at_none p f at' items facts other n (unwrap_or (slice_get counts' k) 0) x looks at un
-    ∙ sym (at_none p f at' items facts frame n (unwrap_or (slice_get frame.counts k) 0) x looks at un)) (true_or_false (items (Keep frame.func n))) in
+    ∙ sym (at_none p f at' items facts frame n (unwrap_or (slice_get frame.counts k) 0) x looks at un)) (cases_Bool (items (Keep frame.func n))) in
     filter-append (is_needed items) its (frees_from other (k + 1) xs)
     ∙ (λ i. head i ++ from_alike p f at' items facts frame node' regs' counts' looks alike (k + 1) xs (follow_tail (nodes_of (func_at p frame.func)) k x xs follow) i)
     ∙ sym (filter-append (is_needed items) mine (frees_from frame (k + 1) xs))

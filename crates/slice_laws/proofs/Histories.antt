@@ -46,28 +46,19 @@ agree_refl p location.Result h = tt
 
 byte_same : (p : ProgramData) (c : Change) (h h' : History) (x : ObjectName) (k : ℕ) → byte_at p h x k ≡ byte_at p h' x k → byte_at p (c ∷ h) x k ≡ byte_at p (c ∷ h') x k
 byte_same p (Write y j b) h h' x k e = ap (λ old. if same_object x y && (j == k) then b else old) e
-byte_same p (Alloc y size) h h' x k e = e
-byte_same p (Free y) h h' x k e = e
-byte_same p Get h h' x k e = e
-byte_same p (Put b) h h' x k e = e
+byte_same p _ h h' x k e = e
 
 made_same : (c : Change) (h h' : History) (x : ObjectName) → size_made x h ≡ size_made x h' → size_made x (c ∷ h) ≡ size_made x (c ∷ h')
-made_same (Write y j b) h h' x e = e
 made_same (Alloc y size) h h' x e = ap (λ old. if same_object x y then size else old) e
-made_same (Free y) h h' x e = e
-made_same Get h h' x e = e
-made_same (Put b) h h' x e = e
+made_same _ h h' x e = e
 
 size_same : (p : ProgramData) (c : Change) (h h' : History) (x : ObjectName) → size_of p x h ≡ size_of p x h' → size_of p x (c ∷ h) ≡ size_of p x (c ∷ h')
 size_same p c h h' (Global g) e = refl
 size_same p c h h' (Made frame made) e = made_same c h h' (Made frame made) e
 
 position_same : (c : Change) (h h' : History) → position h ≡ position h' → position (c ∷ h) ≡ position (c ∷ h')
-position_same (Write y j b) h h' e = e
-position_same (Alloc y size) h h' e = e
-position_same (Free y) h h' e = e
 position_same Get h h' e = ap (λ n. n + 1) e
-position_same (Put b) h h' e = e
+position_same _ h h' e = e
 
 agree_same : (p : ProgramData) (l : Location) (c : Change) (h h' : History) → Agree p l h h' → Agree p l (c ∷ h) (c ∷ h')
 agree_same p (location.Cells s) c h h' a = λ x k e. byte_same p c h h' x k (a x k e)
@@ -96,42 +87,27 @@ byte_other : (p : ProgramData) (items : Items) (c : Change) (h : History) (x : O
     → byte_at p (c ∷ h) x k ≡ byte_at p h x k
 byte_other p items (Write y j b) h x k s is need no' =
     ap (λ t. if t && (j == k) then b else byte_at p h x k) (apart x y s (λ z. items (Need (location.Cells z))) is need no')
-byte_other p items (Alloc y size) h x k s is need no' = refl
-byte_other p items (Free y) h x k s is need no' = refl
-byte_other p items Get h x k s is need no' = refl
-byte_other p items (Put b) h x k s is need no' = refl
+byte_other p items _ h x k s is need no' = refl
 
 alloc_other : (items : Items) (c : Change) (x : ObjectName) (s : Site) → site_of x ≡ s → items (Need (location.Life s)) ≡ true → is_needed items c ≡ false → is_alloc_of x c ≡ false
-alloc_other items (Write y j b) x s is need no' = refl
 alloc_other items (Alloc y size) x s is need no' = apart x y s (λ z. items (Need (location.Life z))) is need no'
-alloc_other items (Free y) x s is need no' = refl
-alloc_other items Get x s is need no' = refl
-alloc_other items (Put b) x s is need no' = refl
+alloc_other items _ x s is need no' = refl
 
 free_other : (items : Items) (c : Change) (x : ObjectName) (s : Site) → site_of x ≡ s → items (Need (location.Life s)) ≡ true → is_needed items c ≡ false → is_free_of x c ≡ false
-free_other items (Write y j b) x s is need no' = refl
-free_other items (Alloc y size) x s is need no' = refl
 free_other items (Free y) x s is need no' = apart x y s (λ z. items (Need (location.Life z))) is need no'
-free_other items Get x s is need no' = refl
-free_other items (Put b) x s is need no' = refl
+free_other items _ x s is need no' = refl
 
 made_other : (c : Change) (h : History) (x : ObjectName) → is_alloc_of x c ≡ false → size_made x (c ∷ h) ≡ size_made x h
-made_other (Write y j b) h x e = refl
 made_other (Alloc y size) h x e = ap (λ t. if t then size else size_made x h) e
-made_other (Free y) h x e = refl
-made_other Get h x e = refl
-made_other (Put b) h x e = refl
+made_other _ h x e = refl
 
 size_other : (p : ProgramData) (c : Change) (h : History) (x : ObjectName) → is_alloc_of x c ≡ false → size_of p x (c ∷ h) ≡ size_of p x h
 size_other p c h (Global g) e = refl
 size_other p c h (Made frame made) e = made_other c h (Made frame made) e
 
 position_other : (items : Items) (c : Change) (h : History) → items (Need location.Input) ≡ true → is_needed items c ≡ false → position (c ∷ h) ≡ position h
-position_other items (Write y j b) h need no' = refl
-position_other items (Alloc y size) h need no' = refl
-position_other items (Free y) h need no' = refl
 position_other items Get h need no' = not_both (items (Need location.Input)) need no'
-position_other items (Put b) h need no' = refl
+position_other items _ h need no' = refl
 
 agree_other : (p : ProgramData) (items : Items) (l : Location) (c : Change) (h : History) → items (Need l) ≡ true → is_needed items c ≡ false → Agree p l (c ∷ h) h
 agree_other p items (location.Cells s) c h need no' = λ x k is. byte_other p items c h x k s is need no'

@@ -279,7 +279,4 @@ attempt_likewise p input (node.Branch condition left right) s s' plain same = br
 attempt_likewise p input (node.Switch value cases otherwise) s s' plain same =
     side_like s s' (case_of (number_in s value).bits 0 cases otherwise) (case_of (number_in s' value).bits 0 cases otherwise) (ap (λ v. case_of (number v).bits 0 cases otherwise) same.values.0)
 attempt_likewise p input (node.Ret value) s s' plain same = absurd (cc)
-attempt_likewise p input (node.Exit status) s s' plain same = tt
-attempt_likewise p input node.Abort s s' plain same = tt
-attempt_likewise p input (node.Assert args) s s' plain same = tt
-attempt_likewise p input node.Unreachable s s' plain same = tt
+attempt_likewise p input _ s s' plain same = tt

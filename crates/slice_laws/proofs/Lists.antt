@@ -1,13 +1,11 @@
 -- Lists that are read, set and filtered.
+use Rattle.points_to.proofs.Parts.{first}
+use Rattle.std.proofs.lemmas.List.{get_or-map, length-map}
 use Rattle.std.specs.Prelude.{slice_get, slice_set, unwrap_or, slice_index_or, map, reverse, cond}
 use mathlib.Core.List.{reverse_aux}
-use Rattle.std.proofs.Common.{◌≡◌, ◌<◌, ◌∙◌, ℕ, zero, suc, Bool, true, false, List, [], ◌∷◌, ◌++◌, length, refl, ap, arith, ◌⊎◌, inl, inr}
+use Rattle.std.proofs.Common.{◌≡◌, ◌<◌, ◌∙◌, ℕ, zero, suc, Bool, true, false, List, [], ◌∷◌, ◌++◌, length, refl, ap, arith}
 use Rattle.std.specs.List.{Contains, filter, AllByRecursion as Each}
-use Rattle.std.proofs.lemmas.List.Elements.{Contains-append_left, Contains-append_right, Contains-push}
-
-pub true_or_false : (b : Bool) → (b ≡ true) ⊎ (b ≡ false)
-true_or_false true = inl refl
-true_or_false false = inr refl
+use Rattle.std.proofs.lemmas.List.Elements.{Contains-append_right}
 
 pub not_both : {A : Type 0} (b : Bool) → b ≡ true → b ≡ false → A
 not_both b t f = absurd (cc)
@@ -69,24 +67,13 @@ pub none_in : {A : Type 0} (x : A) → Contains [] x → ⊥
 none_in x h = omega (arith, h.1)
 
 pub Contains-map : {A B : Type 0} (f : A → B) (xs : List A) (x : A) → Contains xs x → Contains (map f xs) (f x)
-Contains-map {A = A} {B = B} f xs x h = go xs h.0 h.1 h.2
-  where
-    go : (ys : List A) (k : ℕ) → k < length ys → slice_index_or ys k x ≡ x → Contains (map f ys) (f x)
-    go [] k lt e = absurd (omega (arith, lt))
-    go (y ∷ ys) zero lt e = (zero, omega arith, ap f e)
-    go (y ∷ ys) (suc k) lt e = let rest = go ys k (omega (arith, lt)) e in (suc rest.0, omega (arith, rest.1), rest.2)
+Contains-map f xs x h = (h.0, omega (arith, h.1, length-map xs f), get_or-map f xs h.0 x (f x) h.1 ∙ ap f h.2)
 
 -- a row of a table that a list gives
 pub row_at : {A B : Type 0} (f : A → List B) (xs : List A) (ys : List (List B)) (k : ℕ) (d : A) → k < length xs → slice_index_or (map f xs ++ ys) k [] ≡ f (unwrap_or (slice_get xs k) d)
 row_at f [] ys k d lt = absurd (omega (arith, lt))
 row_at f (x ∷ xs) ys zero d lt = refl
 row_at f (x ∷ xs) ys (suc k) d lt = row_at f xs ys k d (omega (arith, lt))
-
-pub first : {A : Type 0} (x : A) (xs : List A) → Contains (x ∷ xs) x
-first x xs = Contains-append_left (x ∷ []) xs x (Contains-push [] x)
-
-pub second : {A : Type 0} (x y : A) (xs : List A) → Contains (x ∷ y ∷ xs) y
-second x y xs = Contains-append_right (x ∷ []) (y ∷ xs) y (first y xs)
 
 pub later : {A : Type 0} (x y : A) (xs : List A) → Contains xs y → Contains (x ∷ xs) y
 later x y xs there = Contains-append_right (x ∷ []) xs y there

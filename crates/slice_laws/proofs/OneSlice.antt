@@ -2,7 +2,7 @@
 use Rattle.std.specs.Prelude.{slice_get, slice_index_or, map, ◌++◌}
 use Rattle.std.specs.List.{Contains}
 use Rattle.std.proofs.Common.{◌≡◌, ◌<◌, ◌≤◌, ◌∙◌, ◌||◌, ⊎_elim, inl, ℕ, zero, suc, Bool, true, false, List, [], ◌∷◌, length, Some, refl, sym, ap, subst, arith}
-use Rattle.std.proofs.lemmas.Bool.{cases_lt}
+use Rattle.std.proofs.lemmas.Bool.{cases_lt, cases_Bool}
 use Rattle.std.proofs.lemmas.Option.{slice_get_past, slice_get_cases}
 use Rattle.control_closure.specs.Met.{HasEdge}
 use Rattle.control_closure.specs.WalkLaws.{meets_kept}
@@ -19,11 +19,11 @@ use Rattle.flat_ir.specs.Machine.{func_at, nodes_of}
 use Rattle.slices.specs.SliceFacts.{SliceFacts}
 use Rattle.slices.specs.Nexts.{Ways, IsMetFirst, AreNexts, IsKept, AreKept, IsResidual}
 use Rattle.slices.proofs.Slicing.{facts}
-use Rattle.slice_laws.proofs.Lists.{true_or_false, none_in, same_elements}
+use Rattle.slice_laws.proofs.Lists.{none_in, same_elements}
 use Rattle.slice_laws.proofs.Frames.{apart_end}
 
 -- two tests that are true together are one
-same_test : (a b : Bool) → (a ≡ true → b ≡ true) → (b ≡ true → a ≡ true) → a ≡ b
+pub same_test : (a b : Bool) → (a ≡ true → b ≡ true) → (b ≡ true → a ≡ true) → a ≡ b
 same_test true b to back = sym (to refl)
 same_test false true to back = back refl
 same_test false false to back = refl
@@ -37,7 +37,7 @@ row_past f (x ∷ xs) zero far = absurd (omega (arith, far))
 row_past f (x ∷ xs) (suc k) far = row_past f xs k (omega (arith, far))
 
 -- the end leads nowhere
-end_leads : (p : ProgramData) (g : FuncId) (n : ℕ) → end_of p g ≤ n → (m : ℕ) → HasEdge (graph_of p g) n m → ⊥
+pub end_leads : (p : ProgramData) (g : FuncId) (n : ℕ) → end_of p g ≤ n → (m : ℕ) → HasEdge (graph_of p g) n m → ⊥
 end_leads p g n far m edge =
     none_in m (subst (λ (row : List ℕ). Contains row m) (row_past (leads_to (end_of p g)) (nodes_of (func_at p g)) n far) edge)
 
@@ -86,7 +86,7 @@ closed_round p f old new closed is =
     end_parts g n there parts = ⊎_elim (λ lt. retained_node p old g n lt there) (λ far. absurd (end_leads p g n.0 far parts.1.one parts.1.one_edge)) (cases_lt n.0 (end_of p g))
 
     kept : (g : FuncId) (n : NodeId) → PartsIn p f old g n → old (Keep g n) ≡ true
-    kept g n parts = ⊎_elim (λ there. end_parts g n there parts) (λ not. absurd (closed g n not parts)) (true_or_false (retained p g old n.0))
+    kept g n parts = ⊎_elim (λ there. end_parts g n there parts) (λ not. absurd (closed g n not parts)) (cases_Bool (retained p g old n.0))
 
 stays : (p : ProgramData) (f : FuncId) (at' : Location) (x : Items) → IsGrown p f at' x x → IsClosedSlice p f x → (old b : Items) → old ≡ x → Slices p f at' old b → b ≡ x
 stays p f at' x grown closed old b e (ends _ _ is _) = one_grown p f at' x b x (subst (λ (o : Items). IsGrown p f at' o b) e is) grown
@@ -112,28 +112,22 @@ one_slice p f at' old old' a b e (round _ grown next _ is step more) (round _ gr
 
 -- ---- functions with a retained node
 
-AllLook : ProgramData → FuncId → Items → Type 0
-AllLook p f items = (g : FuncId) (n : NodeId) → items (Keep g n) ≡ true → Looks p f g
-
-ItemLooks : ProgramData → FuncId → Item → Type 0
+-- the slice looks at the function of the item, if it has one
+abbrev pub ItemLooks : ProgramData → FuncId → Item → Type 0
 ItemLooks p f (Keep g n) = Looks p f g
 ItemLooks p f (Need l) = Unit {0}
 
-grown_looks : (p : ProgramData) (f : FuncId) (at' : Location) (base : Items) → ((x : Item) → base x ≡ true → ItemLooks p f x) → (x : Item) → Grown p f at' base x → ItemLooks p f x
-unfolding ItemLooks
+pub grown_looks : (p : ProgramData) (f : FuncId) (at' : Location) (base : Items) → ((x : Item) → base x ≡ true → ItemLooks p f x) → (x : Item) → Grown p f at' base x → ItemLooks p f x
 grown_looks p f at' base all _ (before x h) = all x h
 grown_looks p f at' base all _ asked = tt
 grown_looks p f at' base all _ (returns n e e') = itself
 grown_looks p f at' base all _ (changes g n l looks c h) = looks
 grown_looks p f at' base all _ (defines g n m r h reads d) = grown_looks p f at' base all (Keep g n) h
-grown_looks p f at' base all _ (cells g n a s h through points) = tt
-grown_looks p f at' base all _ (lives g n a s h used points) = tt
-grown_looks p f at' base all _ (input g n h e) = tt
 grown_looks p f at' base all _ (calls g n callee m looks e h) = looks
 grown_looks p f at' base all _ (results g n m callee r k h reads e e' e'') = looks_on g m callee (grown_looks p f at' base all (Keep g n) h) e
+grown_looks p f at' base all _ _ = tt
 
 round_looks : (p : ProgramData) (f : FuncId) (old new : Items) → ((x : Item) → old x ≡ true → ItemLooks p f x) → IsClosingRound p f old new → (x : Item) → new x ≡ true → ItemLooks p f x
-unfolding ItemLooks
 round_looks p f old new all is (Keep g n) h = ⊎_elim (all (Keep g n)) (λ parts. parts.0) ((is.nodes g n).0 h)
 round_looks p f old new all is (Need l) h = tt
 
@@ -143,7 +137,6 @@ slices_look p f at' old new all (round _ grown next _ is step more) =
     slices_look p f at' next new (round_looks p f grown next (λ x h. grown_looks p f at' old all x ((is x).0 h)) step) more
 
 kept_looks : (p : ProgramData) (f : FuncId) (at' : Location) (items : Items) → IsSlice p f at' items → (g : FuncId) (n : NodeId) → items (Keep g n) ≡ true → Looks p f g
-unfolding ItemLooks
 kept_looks p f at' items slice g n h = slices_look p f at' (λ x. false) items (λ x none. absurd (cc)) slice (Keep g n) h
 
 -- ---- one place to go on

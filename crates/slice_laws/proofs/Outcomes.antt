@@ -1,4 +1,6 @@
 -- What a node that is no call and no return does to a state: the registers that it sets, where it leads, and what it changes.
+use Rattle.mod_ref.proofs.CallsChange.{passes_free, malloc_site, free_fault_at}
+use Rattle.points_to.proofs.Parts.{first, second}
 use Rattle.std.specs.Prelude.{slice_get, slice_set, map, ◌==◌, ◌%◌, ◌^◌, nat_lt, if◌then◌else◌}
 use Rattle.std.proofs.Common.{◌≡◌, ◌∙◌, ◌+◌, ℕ, zero, suc, Bool, true, false, not, ◌&&◌, List, [], ◌∷◌, ◌++◌, Option, Some, None, refl, sym, ap, subst, append_assoc}
 use Rattle.std.specs.List.{Contains, AllByRecursion as Each}
@@ -33,7 +35,7 @@ use Rattle.points_to.specs.Within.{BaseWithin, PointsWithin}
 use Rattle.points_to.proofs.RunsWithin.{address_within}
 use Rattle.flat_ir.specs.Locations.{location_of}
 use Rattle.mod_ref.specs.Changes.{ChangesAt, changes, writes, frees, changed_by, written_through, freed_by, is_malloc_site}
-use Rattle.slice_laws.proofs.Lists.{set_apart, first, second, later}
+use Rattle.slice_laws.proofs.Lists.{set_apart, later}
 
 -- a state with other registers, at another node, and with a longer history
 abbrev pub moved_to : State → List ConcreteValue → NodeId → History → List Event → State
@@ -104,19 +106,6 @@ stored_own : (p : ProgramData) (f : FuncId) (n : NodeId) (times j : ℕ) (a : Ad
 stored_own p f n zero j a v h may own = own
 stored_own p f n (suc times) j a v h may own =
     stored_own p f n times (j + 1) a v (written_in a (cut v j) j h) may (written_own p f n a.base ((a.offset + j) % 2 ^ 64) (cut v j) h may own)
-
--- what passes the tests of a free was made by malloc
-passes_free : (alive made at_start : Bool) → (if not alive then Some fault.UseAfterFree else (if made && at_start then None else Some fault.BadFree)) ≡ None → made ≡ true
-passes_free true true at_start e = refl
-passes_free true false at_start e = cc
-passes_free false made at_start e = cc
-
-malloc_site : (p : ProgramData) (x : ObjectName) → made_by_malloc p x ≡ true → is_malloc_site p (site_of x) ≡ true
-malloc_site p (Global g) e = e
-malloc_site p (Made frame made) e = e
-
-abbrev free_fault_at : ProgramData → History → ℕ → Option ObjectName → Option FaultKind
-free_fault_at p h offset b = elim b [ None ↦ (if offset == 0 then None else Some fault.BadFree) | Some y ↦ freed_object_fault p h y offset ]
 
 freed_own : (p : ProgramData) (f : FuncId) (n : NodeId) (x : Node) (a : Operand) (b : Option ObjectName) (offset : ℕ) (h : History) → node_at p f n ≡ x → freed_by x ≡ Some a
     → BaseWithin p (holder_in f a) b → free_fault_at p h offset b ≡ None → Each (λ d. ChangesAt p f n (location_of d)) (elim b [ None ↦ [] | Some y ↦ Free y ∷ [] ])
@@ -234,7 +223,4 @@ attempt_did p input (node.Branch condition left right) s plain at =
 attempt_did p input (node.Switch value cases otherwise) s plain at =
     sets_none p (node.Switch value cases otherwise) s (case_of (number_in s value).bits 0 cases otherwise).1 [] _ (case_leads (number_in s value).bits 0 cases otherwise) tt
 attempt_did p input (node.Ret value) s plain at = absurd (cc)
-attempt_did p input (node.Exit status) s plain at = tt
-attempt_did p input node.Abort s plain at = tt
-attempt_did p input (node.Assert args) s plain at = tt
-attempt_did p input node.Unreachable s plain at = tt
+attempt_did p input _ s plain at = tt

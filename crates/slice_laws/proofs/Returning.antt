@@ -1,4 +1,5 @@
 -- Frames that end in both runs, or in the whole run alone.
+use Rattle.points_to.proofs.Parts.{first}
 use Rattle.std.specs.Prelude.{slice_get, slice_set, reverse}
 use Rattle.std.specs.Option.{option_map}
 use Rattle.std.proofs.Common.{◌≡◌, ◌≤◌, ◌∙◌, ◌⊎◌, ⊎_elim, inl, inr, ℕ, suc, true, false, List, [], ◌∷◌, Option, Some, None, refl, sym, ap, subst, arith}
@@ -21,7 +22,7 @@ use Rattle.points_to.specs.Within.{AreCalls, RunWithin, callee_of}
 use Rattle.slices.specs.Nodes.{is_return}
 use Rattle.slices.specs.Slice.{Keep, Looks, end_of, leads_to}
 use Rattle.slice_laws.specs.ResidualRun.{Runs, returns_to, frame_ends, goes_to, call_goes_on}
-use Rattle.slice_laws.proofs.Lists.{not_both, set_apart, set_both, first}
+use Rattle.slice_laws.proofs.Lists.{not_both, set_apart, set_both}
 use Rattle.slice_laws.proofs.Histories.{Grew, grow}
 use Rattle.slice_laws.proofs.Likewise.{SeesSame}
 use Rattle.slice_laws.specs.Moments.{IsRead}

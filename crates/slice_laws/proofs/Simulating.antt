@@ -1,6 +1,6 @@
 -- The residual run of a slice follows its call.
 use Rattle.std.proofs.Common.{◌≡◌, ◌≤◌, ◌<◌, ◌∙◌, ⊎_elim, ℕ, suc, true, List, Option, refl, sym, ap, subst}
-use Rattle.std.proofs.lemmas.Bool.{cases_lt}
+use Rattle.std.proofs.lemmas.Bool.{cases_lt, cases_Bool}
 use Rattle.flat_ir.specs.declared.names.FuncId.{FuncId}
 use Rattle.flat_ir.specs.declared.names.NodeId.{NodeId}
 use Rattle.flat_ir.specs.declared.names.RegId.{RegId}
@@ -16,7 +16,7 @@ use Rattle.points_to.specs.Within.{IsWithin, RunWithin, callee_of}
 use Rattle.points_to.proofs.RunsWithin.{step_within}
 use Rattle.slices.specs.Slice.{Keep, end_of}
 use Rattle.slice_laws.specs.ResidualRun.{whole, Runs, lifted, executes, call_step}
-use Rattle.slice_laws.proofs.Lists.{true_or_false, not_both}
+use Rattle.slice_laws.proofs.Lists.{not_both}
 use Rattle.slice_laws.proofs.Histories.{Grew}
 use Rattle.slice_laws.proofs.Outcomes.{is_plain}
 use Rattle.slice_laws.proofs.Likewise.{attempt_likewise}
@@ -54,7 +54,7 @@ plain_follows c s x at plain b room within =
     (λ far. subst (λ (y : Node). Follows c (lifted (attempt c.p c.input y (with_frame (counted s.frame) s)))) (sym (past c.p s.frame.func s.frame.node far) ∙ at) tt)
     (cases_lt s.frame.node.0 (end_of c.p s.frame.func)))
     (λ un. silent c (with_frame (counted s.frame) s) x at plain un (now_counted c s un b) within)
-    (true_or_false (c.items (Keep s.frame.func s.frame.node)))
+    (cases_Bool (c.items (Keep s.frame.func s.frame.node)))
 
 call_kept : (c : Stage) (frame frame' : Frame) (rest rest' : List Frame) (h : History) (events : List Event) (h' : History) (events' : List Event) (steps : ℕ) (callee : FuncId) (args : List Operand) (result : Option RegId) (next : NodeId)
     → suc steps ≤ c.most → Shows c.p c.f c.items frame rest frame' rest' → node_at c.p frame.func frame.node ≡ node.Call callee args result next → c.items (Keep frame.func frame.node) ≡ true → Grew c.items c.h c.h' h h'
@@ -84,7 +84,7 @@ call_follows c s callee args result next at b room within =
       grew = b2.grew;
       within = within;
     })
-    (true_or_false (c.items (Keep s.frame.func s.frame.node)))
+    (cases_Bool (c.items (Keep s.frame.func s.frame.node)))
 
 return_kept : (c : Stage) (frame frame' : Frame) (rest rest' : List Frame) (h : History) (events : List Event) (h' : History) (events' : List Event) (steps : ℕ) (value : Option Operand)
     → suc steps ≤ c.most → Shows c.p c.f c.items frame rest frame' rest' → node_at c.p frame.func frame.node ≡ node.Ret value → c.items (Keep frame.func frame.node) ≡ true → Grew c.items c.h c.h' h h'
@@ -107,7 +107,7 @@ return_follows c s value at b room within =
     ⊎_elim (λ kept. return_kept c s.frame b.state.frame s.callers b.state.callers s.history s.events b.state.history b.state.events b.steps value room b.shows at kept b.grew b.within b.ran within)
     (λ un. silent_return c (counted s.frame) b.state.frame s.callers b.state.callers s.history s.events b.state.history b.state.events b.steps value _ room
     (shows_counted c.p c.f c.items s.frame b.state.frame s.callers b.state.callers un b.shows) at un b.grew b.within.called within b.ran)
-    (true_or_false (c.items (Keep s.frame.func s.frame.node)))
+    (cases_Bool (c.items (Keep s.frame.func s.frame.node)))
 
 node_follows : (c : Stage) (s : State) (x : Node) → node_at c.p s.frame.func s.frame.node ≡ x → (b : Beside c s) → suc b.steps ≤ c.most → RunWithin c.p (attempt c.p c.input x (with_frame (counted s.frame) s))
     → Follows c (executes c.p c.input x (with_frame (counted s.frame) s))

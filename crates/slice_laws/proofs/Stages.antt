@@ -1,4 +1,5 @@
 -- One call and its residual call, step by step.
+use Rattle.points_to.proofs.Parts.{first}
 use Rattle.std.specs.Prelude.{slice_get, unwrap_or}
 use Rattle.std.proofs.Common.{◌≡◌, ◌≤◌, ◌∙◌, ◌&&◌, ℕ, true, false, not, List, [], ◌∷◌, Option, Some, None, refl, sym, ap, subst}
 use Rattle.std.specs.List.{Contains, AllByRecursion as Each}
@@ -36,7 +37,7 @@ use Rattle.slices.specs.SliceFacts.{SliceFacts, GoesWhereMet}
 use Rattle.slices.specs.Nexts.{Ways}
 use Rattle.slice_laws.specs.ResidualRun.{CallRun, Runs, Ends, Breaks, lifted, call_run}
 use Rattle.slice_laws.specs.Simulation.{Agree}
-use Rattle.slice_laws.proofs.Lists.{not_both, filter_none, none_in, first, later, each_from}
+use Rattle.slice_laws.proofs.Lists.{not_both, filter_none, none_in, later, each_from}
 use Rattle.slice_laws.proofs.Histories.{is_needed, Grew, grow, still_agree}
 use Rattle.slice_laws.proofs.Outcomes.{Did, did, RunDid, is_plain, attempt_did}
 use Rattle.slice_laws.proofs.Likewise.{SameLife, SameBytes, SeesSame}
@@ -165,9 +166,7 @@ through_reads _ a e = absurd (cc)
 value_alike : (p : ProgramData) (items : Items) (frame frame' : Frame) → ((r : RegId) → IsRead p items frame.func r → slice_get frame'.regs r.0 ≡ slice_get frame.regs r.0) → (n : NodeId) → items (Keep frame.func n) ≡ true
     → (a : Operand) → Contains (operands_of (node_at p frame.func n)) a → value_in frame' a ≡ value_in frame a
 value_alike p items frame frame' same n kept (operand.Reg r) there = ap (λ (o : Option ConcreteValue). unwrap_or o (Ptr null)) (same r (n, kept, there))
-value_alike p items frame frame' same n kept (operand.Int number) there = refl
-value_alike p items frame frame' same n kept operand.Null there = refl
-value_alike p items frame frame' same n kept (operand.Global g offset) there = refl
+value_alike p items frame frame' same n kept _ there = refl
 
 alive_same : (x : ObjectName) (h h' : History) → is_made x h ≡ is_made x h' → is_freed x h ≡ is_freed x h' → is_alive x h' ≡ is_alive x h
 alive_same (Global g) h h' made freed = refl

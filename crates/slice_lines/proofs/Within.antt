@@ -16,7 +16,7 @@ use Rattle.flat_ir.specs.declared.program.ProgramData.{ProgramData}
 use Rattle.flat_ir.specs.Machine.{func_at, nodes_of}
 use Rattle.points_to.specs.declared.holders.Holder.TheVariants.{Bytes}
 use Rattle.points_to.specs.Points.{IsIn}
-use Rattle.points_to.proofs.AskedIn.{both_each}
+use Rattle.flat_ir.proofs.MadeBasics.{each_append}
 use Rattle.mod_ref.specs.Sites.{site_of_node, sites_from, sites_by_funcs, sites_by_globals, sites, locations}
 use Rattle.slicer.specs.Locations.{IsLocationOf}
 use Rattle.slice_lines.specs.Targets.{location_word, result_if, result_of, targets, location_in}
@@ -38,13 +38,13 @@ node_each p f k _ within = tt
 nodes_each : (p : ProgramData) (f : FuncId) (k : ℕ) (xs : List Node) → k + length xs ≤ length (nodes_of (func_at p f)) → Each (IsSiteOf p) (sites_from f k xs)
 nodes_each p f k [] within = tt
 nodes_each p f k (x ∷ xs) within =
-    both_each (IsSiteOf p) (site_of_node f k x) (sites_from f (k + 1) xs) (node_each p f k x (omega (arith, within))) (nodes_each p f (k + 1) xs (omega (arith, within)))
+    each_append (IsSiteOf p) (site_of_node f k x) (sites_from f (k + 1) xs) (node_each p f k x (omega (arith, within))) (nodes_each p f (k + 1) xs (omega (arith, within)))
 
 funcs_each : (p : ProgramData) (k : ℕ) (fs : List Func) → ((i : ℕ) (g : Func) → slice_get fs i ≡ Some g → slice_get p.funcs (k + i) ≡ Some g)
     → Each (IsSiteOf p) (sites_by_funcs k fs)
 funcs_each p k [] stands = tt
 funcs_each p k (f ∷ fs) stands =
-    both_each (IsSiteOf p) (sites_from (record { 0 = k }) 0 f.nodes) (sites_by_funcs (k + 1) fs)
+    each_append (IsSiteOf p) (sites_from (record { 0 = k }) 0 f.nodes) (sites_by_funcs (k + 1) fs)
     (nodes_each p (record { 0 = k }) 0 f.nodes (of_func (slice_get p.funcs k) here)) (funcs_each p (k + 1) fs more)
   where
     here : slice_get p.funcs k ≡ Some f
@@ -59,7 +59,7 @@ funcs_each p k (f ∷ fs) stands =
 
 sites_each : (p : ProgramData) → Each (IsSiteOf p) (sites p)
 sites_each p =
-    both_each (IsSiteOf p) (sites_by_globals 0 p.globals) (sites_by_funcs 0 p.funcs) (globals_each p 0 p.globals (omega arith))
+    each_append (IsSiteOf p) (sites_by_globals 0 p.globals) (sites_by_funcs 0 p.funcs) (globals_each p 0 p.globals (omega arith))
     (funcs_each p 0 p.funcs (λ i g at. let e : i ≡ 0 + i = omega arith in subst (λ (n : ℕ). slice_get p.funcs n ≡ Some g) e at))
 
 -- ---- locations
@@ -74,8 +74,8 @@ lives_each p (s ∷ ss) all = (all.0, lives_each p ss all.1)
 
 locations_each : (p : ProgramData) → Each (IsLocationOf p) (locations p)
 locations_each p =
-    both_each (IsLocationOf p) (map location.Cells (sites p)) (map location.Life (sites p) ++ location.Input ∷ location.Output ∷ []) (cells_each p (sites p) (sites_each p))
-    (both_each (IsLocationOf p) (map location.Life (sites p)) (location.Input ∷ location.Output ∷ []) (lives_each p (sites p) (sites_each p)) (tt, (tt, tt)))
+    each_append (IsLocationOf p) (map location.Cells (sites p)) (map location.Life (sites p) ++ location.Input ∷ location.Output ∷ []) (cells_each p (sites p) (sites_each p))
+    (each_append (IsLocationOf p) (map location.Life (sites p)) (location.Input ∷ location.Output ∷ []) (lives_each p (sites p) (sites_each p)) (tt, (tt, tt)))
 
 result_each : (p : ProgramData) (o : Option Func) → Each (IsLocationOf p) (result_of o)
 result_each p None = tt
@@ -86,7 +86,7 @@ result_each p (Some f) = of_type f.result
     of_type (Some t) = (tt, tt)
 
 targets_each : (p : ProgramData) (f : FuncId) → Each (IsLocationOf p) (targets p f)
-targets_each p f = both_each (IsLocationOf p) (locations p) (result_of (func_at p f)) (locations_each p) (result_each p (func_at p f))
+targets_each p f = each_append (IsLocationOf p) (locations p) (result_of (func_at p f)) (locations_each p) (result_each p (func_at p f))
 
 by-test : (P : Location → Type 0) (b : Bool) (l : Location) (o : Option Location) → P l → IfSome o P → IfSome (if b then Some l else o) P
 by-test P true l o here more = here

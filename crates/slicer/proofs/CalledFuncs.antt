@@ -1,4 +1,6 @@
 -- The functions that are reached by calls are those that a slice looks at.
+use Rattle.slice_laws.proofs.Lists.{each_from}
+use Rattle.points_to.proofs.Parts.{first, from_part, each_part}
 use Rattle.std.proofs.Common.{◌≡◌, ◌<◌, ◌+◌, ◌++◌, ◌∙◌, ◌⊎◌, ℕ, zero, suc, Bool, true, false, List, [], ◌∷◌, length, get_or, replicate, Option, Some, None, refl, sym, ap, subst, arith, ⊎_elim}
 use Rattle.std.specs.Prelude.{slice_get, slice_set, unwrap_or}
 use Rattle.std.specs.List.{Contains, flat_map, AllByRecursion as Each}
@@ -16,14 +18,13 @@ use Rattle.flat_ir.specs.declared.program.ProgramData.{ProgramData}
 use Rattle.flat_ir.specs.Machine.{func_at, nodes_of, node_at}
 use Rattle.flat_ir.specs.Whole.{IsWhole}
 use Rattle.points_to.specs.Within.{callee_of}
-use Rattle.points_to.proofs.AskedIn.{both_each, Follow, follow_head, follow_tail}
 use Rattle.slices.specs.Slice.{Looks, itself, calls, end_of}
 use Rattle.slicer.specs.declared.reaching.Arrow.{Arrow}
 use Rattle.slicer.specs.Calls.{call_if, calls_from, calls_by_funcs}
 use Rattle.slicer.specs.Facts.{func}
 use Rattle.slicer.specs.Reached.{Reached, begins, follows, AreWithin}
-use Rattle.slicer.proofs.Carrying.{each_of, each_flat_map}
-use Rattle.slicer.proofs.Complete.{contains_flat_map, first, calls_there, callee_within}
+use Rattle.slicer.proofs.Carrying.{each_flat_map}
+use Rattle.slicer.proofs.Complete.{contains_flat_map, calls_there, callee_within}
 use Rattle.slicer.proofs.Numbers.{func_within}
 
 abbrev call : ℕ → ℕ → Arrow
@@ -49,7 +50,7 @@ node_is p k n nodes x is lt e =
 nodes_call : (p : ProgramData) (k : ℕ) (nodes : List Node) → nodes_of (func_at p (func k)) ≡ nodes → Each (IsCall p) (calls_from k nodes)
 nodes_call p k nodes is =
     each_flat_map (λ x. call_if k (callee_of x)) (IsCall p) nodes
-    (each_of (λ x. Each (IsCall p) (call_if k (callee_of x))) nodes
+    (each_from (λ x. Each (IsCall p) (call_if k (callee_of x))) nodes
     (λ x there. call_each (IsCall p) k (callee_of x) (λ callee e. record {
       node = record { 0 = there.0 };
       callee = callee;
@@ -57,17 +58,10 @@ nodes_call p k nodes is =
       there = refl;
     })))
 
-funcs_call : (p : ProgramData) (k : ℕ) (fs : List Func) → Follow p.funcs k fs → Each (IsCall p) (calls_by_funcs k fs)
-funcs_call p k [] follow = tt
-funcs_call p k (f ∷ fs) follow =
-    both_each (IsCall p) (calls_from k f.nodes) (calls_by_funcs (k + 1) fs)
-    (nodes_call p k f.nodes (ap nodes_of (follow_head p.funcs k f fs follow)))
-    (funcs_call p (k + 1) fs (follow_tail p.funcs k f fs follow))
-
 calls_are : (p : ProgramData) (a : Arrow) → Contains (calls_by_funcs 0 p.funcs) a → IsCall p a
 calls_are p a there =
     All-contains (IsCall p) (calls_by_funcs 0 p.funcs) a (All-from_recursion (IsCall p) (calls_by_funcs 0 p.funcs)
-    (funcs_call p 0 p.funcs (λ i. let e : 0 + i ≡ i = omega arith in ap (slice_get p.funcs) e))) there
+    (each_part (λ k (f : Func). calls_from k f.nodes) calls_by_funcs (λ k. refl, λ k f fs. refl) (IsCall p) p.funcs (λ k f stands. nodes_call p k f.nodes (ap nodes_of stands)))) there
 
 pub calls_within : (p : ProgramData) → IsWhole p → AreWithin (length p.funcs) (calls_by_funcs 0 p.funcs)
 calls_within p whole a there =
@@ -75,18 +69,6 @@ calls_within p whole a there =
     (func_within p (func a.from) c.node.0 (calls_there p (func a.from) c.node c.callee c.calls), omega (arith, c.there, callee_within p whole (func a.from) c.node c.callee c.calls))
 
 -- ---- each call is there
-
-from_func : (k i : ℕ) (fs : List Func) (f : Func) (a : Arrow) → slice_get fs i ≡ Some f → Contains (calls_from (k + i) f.nodes) a → Contains (calls_by_funcs k fs) a
-from_func k i [] f a at' h = absurd (cc)
-from_func k zero (g ∷ fs) f a at' h =
-    let same : g ≡ f = cc in
-    let e : k + 0 ≡ k = omega arith in
-    Contains-append_left (calls_from k g.nodes) (calls_by_funcs (k + 1) fs) a
-    (subst (λ (z : Func). Contains (calls_from k z.nodes) a) (sym same) (subst (λ (n : ℕ). Contains (calls_from n f.nodes) a) e h))
-from_func k (suc i) (g ∷ fs) f a at' h =
-    let e : k + suc i ≡ k + 1 + i = omega arith in
-    Contains-append_right (calls_from k g.nodes) (calls_by_funcs (k + 1) fs) a
-    (from_func (k + 1) i fs f a at' (subst (λ (n : ℕ). Contains (calls_from n f.nodes) a) e h))
 
 call_there : (p : ProgramData) (g : FuncId) (n : NodeId) (callee : FuncId) → callee_of (node_at p g n) ≡ Some callee → Contains (calls_by_funcs 0 p.funcs) (call g.0 callee.0)
 call_there p g n callee e = go (func_at p g) refl (calls_there p g n callee e) e
@@ -97,12 +79,10 @@ call_there p g n callee e = go (func_at p g) refl (calls_there p g n callee e) e
     go (Some f) at' lt is =
         let x : Node = get_or f.nodes n.0 node.Unreachable in
         let same : unwrap_or (slice_get f.nodes n.0) node.Unreachable ≡ x = unwrap_or-slice_get f.nodes n.0 node.Unreachable in
-        let eg : g.0 ≡ 0 + g.0 = omega arith in
-        from_func 0 g.0 p.funcs f (call g.0 callee.0) at'
-        (subst (λ (k : ℕ). Contains (calls_from k f.nodes) (call g.0 callee.0)) eg
+        from_part (λ k (h : Func). calls_from k h.nodes) calls_by_funcs (λ k. refl, λ k h hs. refl) g.0 p.funcs f (call g.0 callee.0) at'
         (contains_flat_map (λ y. call_if g.0 (callee_of y)) f.nodes x (call g.0 callee.0)
         (Contains-get_or f.nodes n.0 node.Unreachable lt)
-        (subst (λ (o : Option FuncId). Contains (call_if g.0 o) (call g.0 callee.0)) (sym (ap callee_of (sym same) ∙ is)) (first (call g.0 callee.0) []))))
+        (subst (λ (o : Option FuncId). Contains (call_if g.0 o) (call g.0 callee.0)) (sym (ap callee_of (sym same) ∙ is)) (first (call g.0 callee.0) [])))
 
 -- ---- what is reached
 

@@ -1,4 +1,7 @@
 -- What follows by links holds.
+use Rattle.slice_laws.proofs.Lists.{none_in, each_from}
+use Rattle.points_to.proofs.Parts.{each_part}
+use Rattle.flat_ir.proofs.MadeBasics.{each_append}
 use Rattle.std.proofs.Common.{◌≡◌, ◌<◌, ◌≤◌, ◌+◌, ◌++◌, ℕ, zero, suc, Bool, true, false, List, [], ◌∷◌, length, map, get_or, Option, Some, None, refl, sym, ap, subst, arith, ◌∙◌}
 use Rattle.std.specs.Prelude.{slice_get, unwrap_or}
 use Rattle.std.specs.List.{Contains, flat_map, AllByRecursion as Each}
@@ -27,7 +30,6 @@ use Rattle.points_to.specs.Points.{PointsTo, address}
 use Rattle.points_to.specs.Rows.{Tables}
 use Rattle.points_to.specs.Sets.{ArePointsTo}
 use Rattle.points_to.specs.Within.{callee_of}
-use Rattle.points_to.proofs.AskedIn.{both_each, Follow, follow_head, follow_tail}
 use Rattle.points_to.proofs.Containing.{node_reads}
 use Rattle.mod_ref.specs.Changes.{ChangesAt, changes, writes, frees, changed_by, written_through, freed_by, is_malloc_site}
 use Rattle.mod_ref.proofs.OwnChanges.{held, written_reads, freed_reads}
@@ -42,17 +44,13 @@ use Rattle.slicer.specs.Facts.{func, Means}
 
 -- ---- lists
 
-pub each_of : {A : Type 0} (P : A → Type 0) (xs : List A) → ((x : A) → Contains xs x → P x) → Each P xs
-each_of P [] h = tt
-each_of P (x ∷ xs) h = (h x (0, omega arith, refl), each_of P xs (λ y there. h y (Contains-append_right (x ∷ []) xs y there)))
-
 pub each_map : {A B : Type 0} (g : A → B) (P : B → Type 0) (xs : List A) → Each (λ a. P (g a)) xs → Each P (map g xs)
 each_map g P [] h = tt
 each_map g P (x ∷ xs) h = (h.0, each_map g P xs h.1)
 
 pub each_flat_map : {A B : Type 0} (g : A → List B) (P : B → Type 0) (xs : List A) → Each (λ a. Each P (g a)) xs → Each P (flat_map g xs)
 each_flat_map g P [] h = tt
-each_flat_map g P (x ∷ xs) h = both_each P (g x) (flat_map g xs) h.0 (each_flat_map g P xs h.1)
+each_flat_map g P (x ∷ xs) h = each_append P (g x) (flat_map g xs) h.0 (each_flat_map g P xs h.1)
 
 -- ---- the pointers of a node
 
@@ -68,22 +66,19 @@ alive_reads P (node.Copy from there next) all = (all.0, (all.1.0, tt))
 alive_reads P (node.Free pointer next) all = (all.0, tt)
 alive_reads P x all = tt
 
-none_there : {A : Type 0} (x : A) → Contains [] x → ⊥
-none_there x h = omega (arith, h.1)
-
 -- ---- sites of pointers
 
 abbrev pub Own : ProgramData → FuncId → Operand → Type 0
 Own p f a = OperandIn (length p.globals) (length (regs_of (func_at p f))) a
 
-one_there : {A : Type 0} (x y : A) → (k : ℕ) → k < 1 → get_or (x ∷ []) k y ≡ y → x ≡ y
+pub one_there : {A : Type 0} (x y : A) → (k : ℕ) → k < 1 → get_or (x ∷ []) k y ≡ y → x ≡ y
 one_there x y zero lt e = e
 one_there x y (suc k) lt e = absurd (omega (arith, lt))
 
 pub sites_only : (p : ProgramData) (t : Tables) → ArePointsTo p t → (f : FuncId) (a : Operand) → Own p f a → (s : Site) → Contains (sites_of t f a) s → PointsTo p (holder_in f a) s
 sites_only p t are f (operand.Reg r) there s h = (are.registers f r there).only s h
-sites_only p t are f (operand.Int n) there s h = absurd (none_there s h)
-sites_only p t are f operand.Null there s h = absurd (none_there s h)
+sites_only p t are f (operand.Int n) there s h = absurd (none_in s h)
+sites_only p t are f operand.Null there s h = absurd (none_in s h)
 sites_only p t are f (operand.Global g offset) there s h =
     let is : site.Global g ≡ s = one_there (site.Global g) s h.0 h.1 h.2 in
     subst (λ (u : Site). PointsTo p (Address g) u) is (address g)
@@ -107,7 +102,7 @@ read_each P (operand.Global g offset ∷ as') h = read_each P as' (λ q there. h
 -- the sites of a pointer, if there is one
 sites_each : (P : Site → Type 0) (t : Tables) (f : FuncId) (o : Option Operand) → ((a : Operand) (s : Site) → o ≡ Some a → Contains (sites_of t f a) s → P s) → Each P (sites_if t f o)
 sites_each P t f None h = tt
-sites_each P t f (Some a) h = each_of P (sites_of t f a) (λ s there. h a s refl there)
+sites_each P t f (Some a) h = each_from P (sites_of t f a) (λ s there. h a s refl there)
 
 kept_each : (P : Site → Type 0) (b : Bool) (s : Site) → (b ≡ true → P s) → Each P (kept_if b s)
 kept_each P true s h = (h refl, tt)
@@ -148,17 +143,17 @@ effects_hold p whole t are f at' base g n =
     let own : (a : Operand) → Contains (used_alive x) a → Own p g a =
     λ a. All-contains (Own p g) (used_alive x) a (All-from_recursion (Own p g) (used_alive x) (alive_reads (Own p g) x (node_reads p g n whole))) in (
       λ k. (n, k),
-      both_each P (wanted_of g (reads x) ++ cells ++ lives_of alive) (input_if (reads_input x))
-          (both_each P (wanted_of g (reads x) ++ cells) (lives_of alive)
-          (both_each P (wanted_of g (reads x)) cells
+      each_append P (wanted_of g (reads x) ++ cells ++ lives_of alive) (input_if (reads_input x))
+          (each_append P (wanted_of g (reads x) ++ cells) (lives_of alive)
+          (each_append P (wanted_of g (reads x)) cells
           (each_map (λ r. Wanted g r) P (reads x) (read_each (λ r. P (Wanted g r)) (operands_of x) (λ r there k. (n, k, there))))
           (each_map (λ s. Needed (location.Cells s)) P (sites_if t g (read_through x))
           (sites_each (λ s. P (Needed (location.Cells s))) t g (read_through x)
           (λ a s e there k. slice.cells g n a s k e (sites_only p t are g a (read_reads (Own p g) x a (node_reads p g n whole) e) s there)))))
           (each_map (λ s. Needed (location.Life s)) P alive
           (each_flat_map (sites_of t g) (λ s. P (Needed (location.Life s))) (used_alive x)
-          (each_of (λ a. Each (λ s. P (Needed (location.Life s))) (sites_of t g a)) (used_alive x)
-          (λ a there. each_of (λ s. P (Needed (location.Life s))) (sites_of t g a) (λ s in' k. slice.lives g n a s k there (sites_only p t are g a (own a there) s in')))))))
+          (each_from (λ a. Each (λ s. P (Needed (location.Life s))) (sites_of t g a)) (used_alive x)
+          (λ a there. each_from (λ s. P (Needed (location.Life s))) (sites_of t g a) (λ s in' k. slice.lives g n a s k there (sites_only p t are g a (own a there) s in')))))))
           (input_each P (reads_input x) (λ e k. slice.input g n k e)),
     )
 
@@ -170,8 +165,8 @@ changes_lead p whole t are f at' base g n looks =
     let Q : Mark → Type 0 = λ m. Means p f at' base m → Grown p f at' base (Keep g n) in
     let cells : List Mark = cells_of (sites_if t g (written_through x)) in
     let made : List Site = flat_map (λ s. kept_if (is_malloc_site p s) s) (sites_if t g (freed_by x)) in
-    both_each Q (needed_if (changed_by g n x) ++ cells) (lives_of made)
-    (both_each Q (needed_if (changed_by g n x)) cells
+    each_append Q (needed_if (changed_by g n x) ++ cells) (lives_of made)
+    (each_append Q (needed_if (changed_by g n x)) cells
     (needed_each Q (changed_by g n x) (λ l e need. slice.changes g n l looks (changes l e) need))
     (each_map (λ s. Needed (location.Cells s)) Q (sites_if t g (written_through x))
     (sites_each (λ s. Q (Needed (location.Cells s))) t g (written_through x)
@@ -187,12 +182,12 @@ causes_lead : (p : ProgramData) → IsWhole p → (t : Tables) → ArePointsTo p
 causes_lead p whole t are f at' base g n looks =
     let x : Node = node_at p g n in
     let Q : Mark → Type 0 = λ m. Means p f at' base m → Grown p f at' base (Keep g n) in
-    both_each Q (changes_of p t g n x ++ holds_if (callee_of x) ++ wanted_of g (results_of x)) (returns_if g (is_return x))
-    (both_each Q (changes_of p t g n x ++ holds_if (callee_of x)) (wanted_of g (results_of x))
-    (both_each Q (changes_of p t g n x) (holds_if (callee_of x))
+    each_append Q (changes_of p t g n x ++ holds_if (callee_of x) ++ wanted_of g (results_of x)) (returns_if g (is_return x))
+    (each_append Q (changes_of p t g n x ++ holds_if (callee_of x)) (wanted_of g (results_of x))
+    (each_append Q (changes_of p t g n x) (holds_if (callee_of x))
     (changes_lead p whole t are f at' base g n looks)
     (holds_each Q (callee_of x) (λ callee e w. slice.calls g n callee w.0 looks e w.1)))
-    (each_map (λ r. Wanted g r) Q (results_of x) (each_of (λ r. Q (Wanted g r)) (results_of x) (λ r there w. slice.defines g w.0 n r w.1 w.2 there))))
+    (each_map (λ r. Wanted g r) Q (results_of x) (each_from (λ r. Q (Wanted g r)) (results_of x) (λ r there w. slice.defines g w.0 n r w.1 w.2 there))))
     (returns_each Q g (is_return x) (λ e all. all n e))
 
 -- the fact to which a link leads holds where the one holds from which it leads
@@ -206,42 +201,27 @@ node_carries p whole t are f at' base g n looks =
     let C : Link → Type 0 = Carries p f at' base in
     let effects : List Mark = effects_of t g x in
     let causes : List Mark = causes_of p t g n x in
-    both_each C (received g (callee_of x) (call_result x) ++ all_from (Kept g n) effects) (all_to (Kept g n) causes)
-    (both_each C (received g (callee_of x) (call_result x)) (all_from (Kept g n) effects)
+    each_append C (received g (callee_of x) (call_result x) ++ all_from (Kept g n) effects) (all_to (Kept g n) causes)
+    (each_append C (received g (callee_of x) (call_result x)) (all_from (Kept g n) effects)
     (received_each C g (callee_of x) (call_result x) (λ callee r e is w k ret. slice.results g w.0 n callee r k w.1 w.2 e is ret))
     (each_map (λ m. link (Kept g n) m) C effects (effects_hold p whole t are f at' base g n)))
     (each_map (λ m. link m (Kept g n)) C causes (causes_lead p whole t are f at' base g n looks))
 
 -- ---- all nodes
 
-nodes_carry : (p : ProgramData) → IsWhole p → (t : Tables) → ArePointsTo p t → (f : FuncId) (at' : Location) (base : Items) (g : FuncId) → Looks p f g
-    → (k : ℕ) (xs : List Node) → Follow (nodes_of (func_at p g)) k xs → Each (Carries p f at' base) (links_from p t g k xs)
-nodes_carry p whole t are f at' base g looks k [] follow = tt
-nodes_carry p whole t are f at' base g looks k (x ∷ xs) follow =
-    let n : NodeId = record { 0 = k } in
-    let here' : node_at p g n ≡ x = ap (λ (o : Option Node). unwrap_or o node.Unreachable) (follow_head (nodes_of (func_at p g)) k x xs follow) in
-    both_each (Carries p f at' base) (links_of p t g n x) (links_from p t g (k + 1) xs)
-    (subst (λ (y : Node). Each (Carries p f at' base) (links_of p t g n y)) here' (node_carries p whole t are f at' base g n looks))
-    (nodes_carry p whole t are f at' base g looks (k + 1) xs (follow_tail (nodes_of (func_at p g)) k x xs follow))
-
-if_carries : (p : ProgramData) → IsWhole p → (t : Tables) → ArePointsTo p t → (f : FuncId) (at' : Location) (base : Items) (g : FuncId) (b : Bool) → (b ≡ true → Looks p f g)
+nodes_carry : (p : ProgramData) → IsWhole p → (t : Tables) → ArePointsTo p t → (f : FuncId) (at' : Location) (base : Items) (g : FuncId) (b : Bool) → (b ≡ true → Looks p f g)
     → (nodes : List Node) → nodes_of (func_at p g) ≡ nodes → Each (Carries p f at' base) (links_if b p t g nodes)
-if_carries p whole t are f at' base g false looks nodes is = tt
-if_carries p whole t are f at' base g true looks nodes is =
-    nodes_carry p whole t are f at' base g (looks refl) 0 nodes
-    (λ i. let e : 0 + i ≡ i = omega arith in ap (λ (ns : List Node). slice_get ns (0 + i)) is ∙ ap (slice_get nodes) e)
-
-funcs_carry : (p : ProgramData) → IsWhole p → (t : Tables) → ArePointsTo p t → (f : FuncId) (at' : Location) (base : Items) (looked : List Bool)
-    → ((k : ℕ) → has looked k ≡ true → Looks p f (func k)) → (k : ℕ) (fs : List Func) → Follow p.funcs k fs → Each (Carries p f at' base) (links_by_funcs p t looked k fs)
-funcs_carry p whole t are f at' base looked looks k [] follow = tt
-funcs_carry p whole t are f at' base looked looks k (g ∷ gs) follow =
-    both_each (Carries p f at' base) (links_if (has looked k) p t (func k) g.nodes) (links_by_funcs p t looked (k + 1) gs)
-    (if_carries p whole t are f at' base (func k) (has looked k) (looks k) g.nodes (ap nodes_of (follow_head p.funcs k g gs follow)))
-    (funcs_carry p whole t are f at' base looked looks (k + 1) gs (follow_tail p.funcs k g gs follow))
+nodes_carry p whole t are f at' base g false looks nodes is = tt
+nodes_carry p whole t are f at' base g true looks nodes is =
+    each_part (λ k. links_of p t g (record { 0 = k })) (links_from p t g) (λ k. refl, λ k x xs. refl) (Carries p f at' base) nodes
+    (λ k x there. subst (λ (y : Node). Each (Carries p f at' base) (links_of p t g (record { 0 = k }) y))
+    (ap (λ (ns : List Node). unwrap_or (slice_get ns k) node.Unreachable) is ∙ ap (λ (o : Option Node). unwrap_or o node.Unreachable) there)
+    (node_carries p whole t are f at' base g (record { 0 = k }) (looks refl)))
 
 -- each link of the program carries what holds
 pub links_carry : (p : ProgramData) → IsWhole p → (t : Tables) → ArePointsTo p t → (f : FuncId) (at' : Location) (base : Items) (looked : List Bool)
     → ((k : ℕ) → has looked k ≡ true → Looks p f (func k)) → (l : Link) → Contains (links p t looked) l → Carries p f at' base l
 links_carry p whole t are f at' base looked looks l =
     All-contains (Carries p f at' base) (links p t looked) l (All-from_recursion (Carries p f at' base) (links p t looked)
-    (funcs_carry p whole t are f at' base looked looks 0 p.funcs (λ i. let e : 0 + i ≡ i = omega arith in ap (slice_get p.funcs) e)))
+    (each_part (λ k (g : Func). links_if (has looked k) p t (func k) g.nodes) (links_by_funcs p t looked) (λ k. refl, λ k g gs. refl) (Carries p f at' base) p.funcs
+    (λ k g stands. nodes_carry p whole t are f at' base (func k) (has looked k) (looks k) g.nodes (ap nodes_of stands))))

@@ -1,9 +1,11 @@
 -- Closing rounds over retained nodes.
+use Rattle.points_to.proofs.Containing.{func_of}
+use Rattle.slicer.proofs.Carrying.{one_there}
+use Rattle.slice_laws.proofs.OneSlice.{end_leads}
 use Rattle.std.specs.Prelude.{◌==◌, ◌||◌, slice_index_or, slice_get, unwrap_or, nat_lt}
 use Rattle.std.proofs.Common.{◌≡◌, ◌≢◌, ◌<◌, ◌≤◌, ◌+◌, ◌++◌, ◌∙◌, ◌⊎◌, inl, inr, ℕ, zero, suc, Bool, true, false, List, [], ◌∷◌, length, map, get_or, Option, Some, None, refl, sym, ap, subst, arith, ⊎_elim, length-append}
 use Rattle.std.specs.List.{Contains, AllByRecursion as Each}
-use Rattle.std.proofs.lemmas.Bool.{cases_lt, cases_eq, eq-eqb, le-ltb}
-use Rattle.std.proofs.lemmas.Bool.Decides.{eqb_tells}
+use Rattle.std.proofs.lemmas.Bool.{cases_lt, cases_eq, eq-eqb, le-ltb, ne_eqb}
 use Rattle.std.proofs.lemmas.List.{get_or_past, get_or-map, length-map}
 use Rattle.std.proofs.lemmas.List.Elements.{Contains-get_or, All-contains}
 use Rattle.std.proofs.lemmas.Option.{slice_get_within, get_or_from_slice_get, slice_get-get_or, unwrap_or-slice_get}
@@ -29,13 +31,10 @@ use Rattle.slicer.specs.Closing as closing
 use Rattle.slicer.specs.Closing.{MarksIf, MarksNodes, IsListed, IsPartedIn, ClosesFunction, ClosesIf, ClosesFirst}
 use Rattle.slicer.specs.Facts.{func, IsParted, ClosesOnce}
 use Rattle.slicer.specs.Places.{number, number_at, number_if, has_at, marked, items_of, spot_of}
-use Rattle.slicer.specs.ReachedLaws.{has_below}
+use Rattle.control_closure.specs.SumLaws.{has-below}
 use Rattle.slicer.proofs.Numbers.{numbered, placed, func_within}
 use Rattle.slicer.proofs.Complete.{marked_has}
 use Rattle.slicer.proofs.Grows.{marked_at}
-
-pub neq-eqb : (a b : ℕ) → a ≢ b → (a == b) ≡ false
-neq-eqb a b ne = ⊎_elim (λ same. absurd (ne same.1)) (λ other. other.0) (eqb_tells a b)
 
 -- ---- sets with the same members
 
@@ -69,28 +68,9 @@ row_at end nodes n d lt =
     let size : length (map (leads_to end) nodes) ≡ length nodes = length-map nodes (leads_to end) in
     get_or-append (map (leads_to end) nodes) ([] ∷ []) [] n (omega (arith, lt, size)) ∙ get_or-map (leads_to end) nodes n d [] lt
 
-row_of_end : (rows : List (List ℕ)) (n : ℕ) → length rows ≤ n → slice_index_or (rows ++ [] ∷ []) n [] ≡ []
-row_of_end rows n le =
-    ⊎_elim (λ (e : n ≡ length rows). subst (λ (k : ℕ). slice_index_or (rows ++ [] ∷ []) k [] ≡ []) (sym e) (get_or-append_seam rows [] [] []))
-    (λ ne. get_or_past (rows ++ [] ∷ []) n [] (omega (arith, le, ne, length-append rows ([] ∷ []))))
-    (cases_eq n (length rows))
-
-none_there : {A : Type 0} (x : A) → Contains [] x → ⊥
-none_there x h = omega (arith, h.1)
-
 -- only nodes have edges
 pub from_node : (p : ProgramData) (g : FuncId) (n m : ℕ) → HasEdge (graph_of p g) n m → n < end_of p g
-from_node p g n m edge =
-    ⊎_elim (λ lt. lt)
-    (λ past.
-    let rows : List (List ℕ) = map (leads_to (end_of p g)) (nodes_of (func_at p g)) in
-    let size : length rows ≡ end_of p g = length-map (nodes_of (func_at p g)) (leads_to (end_of p g)) in
-    absurd (none_there m (subst (λ (r : List ℕ). Contains r m) (row_of_end rows n (omega (arith, past, size))) edge)))
-    (cases_lt n (end_of p g))
-
-one_there : (x y k : ℕ) → k < 1 → get_or (x ∷ []) k y ≡ y → x ≡ y
-one_there x y zero lt e = e
-one_there x y (suc k) lt e = absurd (omega (arith, lt))
+from_node p g n m edge = ⊎_elim (λ lt. lt) (λ far. absurd (end_leads p g n far m edge)) (cases_lt n (end_of p g))
 
 contains_mapped : (xs : List NodeId) (y bound : ℕ) → ((k : ℕ) (d : NodeId) → k < length xs → (get_or xs k d).0 < bound) → Contains (map (λ s. s.0) xs) y → y < bound
 contains_mapped xs y bound all h =
@@ -110,9 +90,7 @@ successors_within p whole g n d lt = go (func_at p g) refl lt
         → (k : ℕ) (e : NodeId) → k < length (successors_of (get_or (nodes_of o) n d)) → (get_or (successors_of (get_or (nodes_of o) n d)) k e).0 < length (nodes_of o)
     go None at' within = absurd (omega (arith, within))
     go (Some f) at' within =
-        let F : Func → Type 0 = IsFuncOf (length p.globals) (length p.funcs) in
-        let good : F f = subst F (get_or_from_slice_get p.funcs g.0 f f at') (whole.funcs g.0 f (slice_get_within p.funcs g.0 f at')) in
-        (good.nodes n d within).successors
+        ((func_of p whole g f at').nodes n d within).successors
 
 pub graph_is : (p : ProgramData) → IsWhole p → (g : FuncId) → IsGraph (graph_of p g)
 graph_is p whole g n m edge =
@@ -154,12 +132,12 @@ bits_retained p starts set g xs size all n =
     ⊎_elim
     (λ (lt : n < end_of p g).
     let ne : n ≢ end_of p g = omega (arith, lt) in
-    or_false (n == end_of p g) (has (xs ++ true ∷ []) n) (marked p starts set (Kept g (closing.node n))) (neq-eqb n (end_of p g) ne) (has_old xs true n (omega (arith, lt, size)) ∙ all n lt))
+    or_false (n == end_of p g) (has (xs ++ true ∷ []) n) (marked p starts set (Kept g (closing.node n))) (ne_eqb n (end_of p g) ne) (has_old xs true n (omega (arith, lt, size)) ∙ all n lt))
     (λ (le : end_of p g ≤ n). ⊎_elim
     (λ (e : n ≡ end_of p g). or_true (n == end_of p g) (has (xs ++ true ∷ []) n) (marked p starts set (Kept g (closing.node n))) (eq-eqb n (end_of p g) e) (has_new xs true n (omega (arith, e, size))))
     (λ (ne : n ≢ end_of p g).
     let far : has (xs ++ true ∷ []) n ≡ false = get_or_past (xs ++ true ∷ []) n false (omega (arith, le, ne, size, length-append xs (true ∷ []))) in
-    or_false (n == end_of p g) (has (xs ++ true ∷ []) n) (marked p starts set (Kept g (closing.node n))) (neq-eqb n (end_of p g) ne) (far ∙ sym (marked_past p starts set g n le)))
+    or_false (n == end_of p g) (has (xs ++ true ∷ []) n) (marked p starts set (Kept g (closing.node n))) (ne_eqb n (end_of p g) ne) (far ∙ sym (marked_past p starts set g n le)))
     (cases_eq n (end_of p g)))
     (cases_lt n (end_of p g))
 
@@ -204,7 +182,7 @@ function_closes p whole starts g grown kept next old new same round' marks = rec
         ⊎_elim
         (λ was.
         let m : marked p starts grown (Kept g is.at') ≡ true =
-        or_cases (is.at'.0 == end_of p g) (marked p starts grown (Kept g is.at')) (sym (same is.at'.0) ∙ was) (neq-eqb is.at'.0 (end_of p g) ne) in
+        or_cases (is.at'.0 == end_of p g) (marked p starts grown (Kept g is.at')) (sym (same is.at'.0) ∙ was) (ne_eqb is.at'.0 (end_of p g) ne) in
         inl (subst (λ (o : Option ℕ). has_at grown o ≡ true) is.number_is m))
         (λ parts. inr (record { at' = is.at'; number_is = is.number_is; parts = back is.at'.0 parts }))
         ((round'.nodes is.at'.0).0 is.there)
@@ -255,7 +233,7 @@ pub all_closed : (p : ProgramData) (starts : List ℕ) (looked : List Bool) (cou
 all_closed p starts looked count grown new size c = record {
   grows = c.grows;
   only = c.only;
-  all = λ g on n parts. c.all g (let lt = has_below looked g.0 on in omega (arith, lt, size)) on n parts;
+  all = λ g on n parts. c.all g (let lt = has-below looked g.0 on in omega (arith, lt, size)) on n parts;
 }
 
 -- ---- lists that grow

@@ -1,11 +1,15 @@
 -- A set that is closed under the links has all that a round grows.
+use Rattle.slice_laws.proofs.OneSlice.{ItemLooks, grown_looks as all_look}
+use Rattle.slice_laws.proofs.Frames.{below_at}
+use Rattle.slice_laws.proofs.Lists.{Contains-map, none_in}
+use Rattle.mod_ref.proofs.SitesAre.{points_both}
+use Rattle.points_to.proofs.Parts.{first, from_part}
+use Rattle.points_to.proofs.AskedIn.{operand_in}
 use Rattle.std.proofs.Common.{◌≡◌, ◌<◌, ◌≤◌, ◌+◌, ◌++◌, ◌⊎◌, inl, inr, ℕ, zero, suc, Bool, true, false, List, [], ◌∷◌, length, map, get_or, Option, Some, None, refl, sym, ap, subst, arith, ◌∙◌, ⊎_elim}
 use Rattle.std.specs.Prelude.{slice_get, unwrap_or}
 use Rattle.std.specs.List.{Contains, flat_map}
-use Rattle.std.proofs.lemmas.Bool.{cases_lt}
-use Rattle.std.proofs.lemmas.List.{get_or-map, length-map}
 use Rattle.std.proofs.lemmas.List.Elements.{Contains-append_left, Contains-append_right, All-contains, All-from_recursion}
-use Rattle.std.proofs.lemmas.Option.{slice_get_past, slice_get_within, slice_get-get_or, unwrap_or-slice_get, get_or_from_slice_get}
+use Rattle.std.proofs.lemmas.Option.{slice_get-get_or, unwrap_or-slice_get, slice_get_read}
 use Rattle.least.specs.Sets.{has}
 use Rattle.flat_ir.specs.declared.names.FuncId.{FuncId}
 use Rattle.flat_ir.specs.declared.names.NodeId.{NodeId}
@@ -32,8 +36,7 @@ use Rattle.points_to.specs.Points.{PointsTo, IsIn, address, names, copies, loads
 use Rattle.points_to.specs.Rows.{Tables}
 use Rattle.points_to.specs.Sets.{ArePointsTo}
 use Rattle.points_to.specs.Within.{callee_of}
-use Rattle.points_to.proofs.AskedIn.{asked_in}
-use Rattle.points_to.proofs.Containing.{node_reads}
+use Rattle.points_to.proofs.Containing.{node_reads, at_any_node, node_of}
 use Rattle.mod_ref.specs.Changes.{ChangesAt, changes, writes, frees, changed_by, written_through, freed_by, is_malloc_site}
 use Rattle.mod_ref.proofs.OwnChanges.{written_reads, freed_reads, changes_within}
 use Rattle.slices.specs.Nodes.{Reads, Defines, read_through, used_alive, reads_input, is_return}
@@ -50,37 +53,20 @@ use Rattle.slicer.proofs.Carrying.{Own, sites_all, read_reads, alive_reads}
 
 -- ---- lists
 
-pub contains_map : {A B : Type 0} (g : A → B) (xs : List A) (x : A) → Contains xs x → Contains (map g xs) (g x)
-contains_map g xs x h = (h.0, omega (arith, h.1, length-map xs g), get_or-map g xs h.0 x (g x) h.1 ∙ ap g h.2)
-
-flat_there : {A B : Type 0} (g : A → List B) (xs : List A) (x : A) (y : B) (k : ℕ) → k < length xs → get_or xs k x ≡ x → Contains (g x) y → Contains (flat_map g xs) y
-flat_there g [] x y k lt e h = absurd (omega (arith, lt))
-flat_there {A} {B} g (z ∷ xs) x y zero lt e h = Contains-append_left (g z) (flat_map g xs) y (subst (λ (u : A). Contains (g u) y) (sym e) h)
-flat_there g (z ∷ xs) x y (suc k) lt e h = Contains-append_right (g z) (flat_map g xs) y (flat_there g xs x y k (omega (arith, lt)) e h)
-
 pub contains_flat_map : {A B : Type 0} (g : A → List B) (xs : List A) (x : A) (y : B) → Contains xs x → Contains (g x) y → Contains (flat_map g xs) y
-contains_flat_map g xs x y there h = flat_there g xs x y there.0 there.1 there.2 h
-
-pub first : {A : Type 0} (x : A) (xs : List A) → Contains (x ∷ xs) x
-first x xs = (0, omega arith, refl)
+contains_flat_map g xs x y there h =
+    from_part (λ k. g) (λ k. flat_map g) (λ k. refl, λ k z zs. refl) there.0 xs x y (slice_get_read xs (length xs) there.0 x refl there.1 (sym there.2)) h
 
 -- ---- the program's nodes
 
-past : (p : ProgramData) (g : FuncId) (n : NodeId) → end_of p g ≤ n.0 → node_at p g n ≡ node.Unreachable
-past p g n h = ap (λ (o : Option Node). unwrap_or o node.Unreachable) (slice_get_past (nodes_of (func_at p g)) n.0 h)
-
--- a node of which something holds that doesn't hold of one that isn't there
-there_is : (P : Node → Type 0) → (P node.Unreachable → ⊥) → (p : ProgramData) (g : FuncId) (n : NodeId) → P (node_at p g n) → n.0 < end_of p g
-there_is P none p g n h = ⊎_elim (λ lt. lt) (λ far. absurd (none (subst P (past p g n far) h))) (cases_lt n.0 (end_of p g))
-
 pub calls_there : (p : ProgramData) (g : FuncId) (n : NodeId) (callee : FuncId) → callee_of (node_at p g n) ≡ Some callee → n.0 < end_of p g
-calls_there p g n callee e = there_is (λ x. callee_of x ≡ Some callee) (λ h. absurd (cc)) p g n e
+calls_there p g n callee e = below_at p g n (λ x. callee_of x ≡ Some callee) e (λ h. absurd (cc))
 
 returns_there : (p : ProgramData) (g : FuncId) (n : NodeId) → is_return (node_at p g n) ≡ true → n.0 < end_of p g
-returns_there p g n e = there_is (λ x. is_return x ≡ true) (λ h. absurd (cc)) p g n e
+returns_there p g n e = below_at p g n (λ x. is_return x ≡ true) e (λ h. absurd (cc))
 
 defines_there : (p : ProgramData) (g : FuncId) (n : NodeId) (r : RegId) → Defines p g n r → n.0 < end_of p g
-defines_there p g n r h = there_is (λ x. Contains (results_of x) r) (λ there. omega (arith, there.1)) p g n h
+defines_there p g n r h = below_at p g n (λ x. Contains (results_of x) r) h (none_in r)
 
 named : (funcs : ℕ) (x : Node) (callee : FuncId) → NamesIn funcs x → callee_of x ≡ Some callee → callee.0 < funcs
 named funcs (node.Call f args result next) callee h e = let same : f ≡ callee = cc in subst (λ (g : FuncId). g.0 < funcs) same h
@@ -88,32 +74,9 @@ named funcs x callee h e = absurd (cc)
 
 -- what is called is a function of the program
 pub callee_within : (p : ProgramData) → IsWhole p → (g : FuncId) (n : NodeId) (callee : FuncId) → callee_of (node_at p g n) ≡ Some callee → callee.0 < length p.funcs
-callee_within p whole g n callee e = go (func_at p g) refl (calls_there p g n callee e) e
-  where
-    go : (o : Option Func) → slice_get p.funcs g.0 ≡ o → n.0 < length (nodes_of o) → callee_of (unwrap_or (slice_get (nodes_of o) n.0) node.Unreachable) ≡ Some callee
-        → callee.0 < length p.funcs
-    go None at' lt is = absurd (omega (arith, lt))
-    go (Some h) at' lt is =
-        let F : Func → Type 0 = IsFuncOf (length p.globals) (length p.funcs) in
-        let good : F h = subst F (get_or_from_slice_get p.funcs g.0 h h at') (whole.funcs g.0 h (slice_get_within p.funcs g.0 h at')) in
-        let x : Node = get_or h.nodes n.0 node.Unreachable in
-        let same : unwrap_or (slice_get h.nodes n.0) node.Unreachable ≡ x = unwrap_or-slice_get h.nodes n.0 node.Unreachable in
-        named (length p.funcs) x callee (good.nodes n.0 node.Unreachable lt).names (subst (λ (y : Node). callee_of y ≡ Some callee) same is)
-
--- the sites of pointers are the program's
-points_in : (p : ProgramData) → IsWhole p → (h : Holder) (s : Site) → PointsTo p h s → IsIn p h → IsIn p (Bytes s)
-points_in p whole _ _ (address g) h = h
-points_in p whole h' s (names _ _ c) h = (asked_in p whole (Names h' s) c).1.1
-points_in p whole to s (copies from _ _ c x) h = points_in p whole from s x (asked_in p whole (Copies from to) c).0
-points_in p whole to s (loads q _ t _ c x y) h = points_in p whole (Bytes t) s y (points_in p whole q t x (asked_in p whole (Loads q to) c).0)
-points_in p whole _ s (stores from q t _ c x y) h = points_in p whole from s y (asked_in p whole (Stores from q) c).0
-points_in p whole _ s (moves from to t u _ c x y z) h = points_in p whole (Bytes t) s y (points_in p whole from t x (asked_in p whole (Moves from to) c).0)
-
-holder_is : (p : ProgramData) (f : FuncId) (a : Operand) → Own p f a → IsIn p (holder_in f a)
-holder_is p f (operand.Reg r) h = h
-holder_is p f (operand.Int n) h = tt
-holder_is p f operand.Null h = tt
-holder_is p f (operand.Global g offset) h = h
+callee_within p whole g n callee e =
+    at_any_node p g n (λ x. callee_of x ≡ Some callee → callee.0 < length p.funcs) (λ f x at' there is. named (length p.funcs) x callee (node_of p whole g f n.0 x at' there).names is)
+    (λ h. absurd (cc)) e
 
 -- the fact is the program's
 abbrev pub IsOwn : ProgramData → Mark → Type 0
@@ -144,14 +107,14 @@ change_there p whole t are g n _ (writes a s e h) =
     let m : Mark = Needed (location.Cells s) in
     Contains-append_left (needed_if (changed_by g n x) ++ written_of t g x) (freed_of p t g x) m
     (Contains-append_right (needed_if (changed_by g n x)) (written_of t g x) m
-    (contains_map (λ u. Needed (location.Cells u)) (sites_if t g (written_through x)) s
+    (Contains-map (λ u. Needed (location.Cells u)) (sites_if t g (written_through x)) s
     (sites_there t g (written_through x) a s e (sites_all p whole t are g a (written_reads (Own p g) x a (node_reads p g n whole) e) s h))))
 change_there p whole t are g n _ (frees a s e h made) =
     let x : Node = node_at p g n in
     let m : Mark = Needed (location.Life s) in
     let K : Site → List Site = λ u. kept_if (is_malloc_site p u) u in
     Contains-append_right (needed_if (changed_by g n x) ++ written_of t g x) (freed_of p t g x) m
-    (contains_map (λ u. Needed (location.Life u)) (flat_map K (sites_if t g (freed_by x))) s
+    (Contains-map (λ u. Needed (location.Life u)) (flat_map K (sites_if t g (freed_by x))) s
     (contains_flat_map K (sites_if t g (freed_by x)) s s
     (sites_there t g (freed_by x) a s e (sites_all p whole t are g a (freed_reads (Own p g) x a (node_reads p g n whole) e) s h))
     (subst (λ (b : Bool). Contains (kept_if b s) s) (sym made) (first s []))))
@@ -174,7 +137,7 @@ cause_set : (p : ProgramData) (t : Tables) (g : FuncId) (n : NodeId) (x : Node) 
 cause_set p t g n x r h =
     Contains-append_left (changes_of p t g n x ++ holds_if (callee_of x) ++ wanted_of g (results_of x)) (returns_if g (is_return x)) (Wanted g r)
     (Contains-append_right (changes_of p t g n x ++ holds_if (callee_of x)) (wanted_of g (results_of x)) (Wanted g r)
-    (contains_map (λ q. Wanted g q) (results_of x) r h))
+    (Contains-map (λ q. Wanted g q) (results_of x) r h))
 
 cause_return : (p : ProgramData) (t : Tables) (g : FuncId) (n : NodeId) (x : Node) → is_return x ≡ true → Contains (causes_of p t g n x) (Returns g)
 cause_return p t g n x e =
@@ -195,7 +158,7 @@ effect_read t g x r h =
     (Contains-append_left (wanted_of g (reads x) ++ cells ++ lives) (input_if (reads_input x)) (Wanted g r)
     (Contains-append_left (wanted_of g (reads x) ++ cells) lives (Wanted g r)
     (Contains-append_left (wanted_of g (reads x)) cells (Wanted g r)
-    (contains_map (λ q. Wanted g q) (reads x) r (contains_flat_map read_by (operands_of x) (operand.Reg r) r h (first r []))))))
+    (Contains-map (λ q. Wanted g q) (reads x) r (contains_flat_map read_by (operands_of x) (operand.Reg r) r h (first r []))))))
 
 effect_cells : (t : Tables) (g : FuncId) (x : Node) (a : Operand) (s : Site) → read_through x ≡ Some a → Contains (sites_of t g a) s → Contains (effects_of t g x) (Needed (location.Cells s))
 effect_cells t g x a s e h =
@@ -206,7 +169,7 @@ effect_cells t g x a s e h =
     (Contains-append_left (wanted_of g (reads x) ++ cells ++ lives) (input_if (reads_input x)) m
     (Contains-append_left (wanted_of g (reads x) ++ cells) lives m
     (Contains-append_right (wanted_of g (reads x)) cells m
-    (contains_map (λ u. Needed (location.Cells u)) (sites_if t g (read_through x)) s (sites_there t g (read_through x) a s e h)))))
+    (Contains-map (λ u. Needed (location.Cells u)) (sites_if t g (read_through x)) s (sites_there t g (read_through x) a s e h)))))
 
 effect_lives : (t : Tables) (g : FuncId) (x : Node) (a : Operand) (s : Site) → Contains (used_alive x) a → Contains (sites_of t g a) s → Contains (effects_of t g x) (Needed (location.Life s))
 effect_lives t g x a s there h =
@@ -216,7 +179,7 @@ effect_lives t g x a s there h =
     behind t g x m
     (Contains-append_left (wanted_of g (reads x) ++ cells ++ lives) (input_if (reads_input x)) m
     (Contains-append_right (wanted_of g (reads x) ++ cells) lives m
-    (contains_map (λ u. Needed (location.Life u)) (flat_map (sites_of t g) (used_alive x)) s (contains_flat_map (sites_of t g) (used_alive x) a s there h))))
+    (Contains-map (λ u. Needed (location.Life u)) (flat_map (sites_of t g) (used_alive x)) s (contains_flat_map (sites_of t g) (used_alive x) a s there h))))
 
 effect_input : (t : Tables) (g : FuncId) (x : Node) → reads_input x ≡ true → Contains (effects_of t g x) (Needed location.Input)
 effect_input t g x e =
@@ -226,33 +189,6 @@ effect_input t g x e =
     (subst (λ (b : Bool). Contains (input_if b) m) (sym e) (first m [])))
 
 -- ---- the links of a node are the program's
-
-from_node : (p : ProgramData) (t : Tables) (g : FuncId) (k i : ℕ) (xs : List Node) (x : Node) (l : Link) → slice_get xs i ≡ Some x → Contains (links_of p t g (record { 0 = k + i }) x) l
-    → Contains (links_from p t g k xs) l
-from_node p t g k i [] x l at' h = absurd (cc)
-from_node p t g k zero (y ∷ xs) x l at' h =
-    let same : y ≡ x = cc in
-    let e : k + 0 ≡ k = omega arith in
-    Contains-append_left (links_of p t g (record { 0 = k }) y) (links_from p t g (k + 1) xs) l
-    (subst (λ (z : Node). Contains (links_of p t g (record { 0 = k }) z) l) (sym same) (subst (λ (n : ℕ). Contains (links_of p t g (record { 0 = n }) x) l) e h))
-from_node p t g k (suc i) (y ∷ xs) x l at' h =
-    let e : k + suc i ≡ k + 1 + i = omega arith in
-    Contains-append_right (links_of p t g (record { 0 = k }) y) (links_from p t g (k + 1) xs) l
-    (from_node p t g (k + 1) i xs x l at' (subst (λ (n : ℕ). Contains (links_of p t g (record { 0 = n }) x) l) e h))
-
-from_func : (p : ProgramData) (t : Tables) (looked : List Bool) (k i : ℕ) (fs : List Func) (h : Func) (l : Link) → slice_get fs i ≡ Some h → has looked (k + i) ≡ true
-    → Contains (links_from p t (func (k + i)) 0 h.nodes) l → Contains (links_by_funcs p t looked k fs) l
-from_func p t looked k i [] h l at' on there = absurd (cc)
-from_func p t looked k zero (y ∷ fs) h l at' on there =
-    let same : y ≡ h = cc in
-    let e : k + 0 ≡ k = omega arith in
-    Contains-append_left (links_if (has looked k) p t (func k) y.nodes) (links_by_funcs p t looked (k + 1) fs) l
-    (subst (λ (b : Bool). Contains (links_if b p t (func k) y.nodes) l) (sym (subst (λ (n : ℕ). has looked n ≡ true) e on))
-    (subst (λ (z : Func). Contains (links_from p t (func k) 0 z.nodes) l) (sym same) (subst (λ (n : ℕ). Contains (links_from p t (func n) 0 h.nodes) l) e there)))
-from_func p t looked k (suc i) (y ∷ fs) h l at' on there =
-    let e : k + suc i ≡ k + 1 + i = omega arith in
-    Contains-append_right (links_if (has looked k) p t (func k) y.nodes) (links_by_funcs p t looked (k + 1) fs) l
-    (from_func p t looked (k + 1) i fs h l at' (subst (λ (n : ℕ). has looked n ≡ true) e on) (subst (λ (n : ℕ). Contains (links_from p t (func n) 0 h.nodes) l) e there))
 
 link_there : (p : ProgramData) (t : Tables) (looked : List Bool) (g : FuncId) (n : NodeId) → has looked g.0 ≡ true → n.0 < end_of p g → (l : Link)
     → Contains (links_of p t g n (node_at p g n)) l → Contains (links p t looked) l
@@ -264,12 +200,10 @@ link_there p t looked g n on within l there = go (func_at p g) refl within there
     go (Some f) at' lt h =
         let x : Node = get_or f.nodes n.0 node.Unreachable in
         let same : unwrap_or (slice_get f.nodes n.0) node.Unreachable ≡ x = unwrap_or-slice_get f.nodes n.0 node.Unreachable in
-        let eg : g.0 ≡ 0 + g.0 = omega arith in
-        let en : n.0 ≡ 0 + n.0 = omega arith in
-        from_func p t looked 0 g.0 p.funcs f l at' (subst (λ (k : ℕ). has looked k ≡ true) eg on)
-        (subst (λ (k : ℕ). Contains (links_from p t (func k) 0 f.nodes) l) eg
-        (from_node p t g 0 n.0 f.nodes x l (slice_get-get_or f.nodes n.0 node.Unreachable lt)
-        (subst (λ (k : ℕ). Contains (links_of p t g (record { 0 = k }) x) l) en (subst (λ (y : Node). Contains (links_of p t g n y) l) same h))))
+        from_part (λ k (h : Func). links_if (has looked k) p t (func k) h.nodes) (links_by_funcs p t looked) (λ k. refl, λ k h hs. refl) g.0 p.funcs f l at'
+        (subst (λ (b : Bool). Contains (links_if b p t g f.nodes) l) (sym on)
+        (from_part (λ k. links_of p t g (record { 0 = k })) (links_from p t g) (λ k. refl, λ k y ys. refl) n.0 f.nodes x l (slice_get-get_or f.nodes n.0 node.Unreachable lt)
+        (subst (λ (y : Node). Contains (links_of p t g n y) l) same h)))
 
 -- ---- a closed set
 
@@ -282,28 +216,14 @@ pub record IsFull (p : ProgramData) (t : Tables) (f : FuncId) (at' : Location) (
   pub looks : (g : FuncId) (n : NodeId) → base (Keep g n) ≡ true → Looks p f g
   pub known : (g : FuncId) → Looks p f g → has looked g.0 ≡ true
 
--- the slice looks at the function of the item, if it has one
-abbrev pub LooksAt : ProgramData → FuncId → Item → Type 0
-LooksAt p f (Keep g n) = Looks p f g
-LooksAt p f (Need l) = Unit {0}
-
-before_looks : (p : ProgramData) (f : FuncId) (base : Items) → ((g : FuncId) (n : NodeId) → base (Keep g n) ≡ true → Looks p f g) → (i : Item) → base i ≡ true → LooksAt p f i
+before_looks : (p : ProgramData) (f : FuncId) (base : Items) → ((g : FuncId) (n : NodeId) → base (Keep g n) ≡ true → Looks p f g) → (i : Item) → base i ≡ true → ItemLooks p f i
 before_looks p f base looks (Keep g n) h = looks g n h
 before_looks p f base looks (Need l) h = tt
 
 -- what grows is of functions that the slice looks at
 pub grown_looks : (p : ProgramData) (f : FuncId) (at' : Location) (base : Items) → ((g : FuncId) (n : NodeId) → base (Keep g n) ≡ true → Looks p f g) → (i : Item)
-    → Grown p f at' base i → LooksAt p f i
-grown_looks p f at' base looks i (slice.before _ h) = before_looks p f base looks i h
-grown_looks p f at' base looks _ slice.asked = tt
-grown_looks p f at' base looks _ (slice.returns n e h) = slice.itself
-grown_looks p f at' base looks _ (slice.changes g n l in' c h) = in'
-grown_looks p f at' base looks _ (slice.defines g n m r h reads' sets) = grown_looks p f at' base looks (Keep g n) h
-grown_looks p f at' base looks _ (slice.cells g n a s h e there) = tt
-grown_looks p f at' base looks _ (slice.lives g n a s h e there) = tt
-grown_looks p f at' base looks _ (slice.input g n h e) = tt
-grown_looks p f at' base looks _ (slice.calls g n callee m in' e h) = in'
-grown_looks p f at' base looks _ (slice.results g n m callee r k h reads' e is ret) = slice.calls g m callee (grown_looks p f at' base looks (Keep g n) h) e
+    → Grown p f at' base i → ItemLooks p f i
+grown_looks p f at' base looks i h = all_look p f at' base (before_looks p f base looks) i h
 
 pub marked_has : (set : List Bool) (o : Option ℕ) → has_at set o ≡ true → (k : ℕ) × (o ≡ Some k) × (has set k ≡ true)
 marked_has set None h = absurd (cc)
@@ -325,7 +245,7 @@ module _ (p : ProgramData) (t : Tables) (f : FuncId) (at' : Location) (base : It
       full.closed l
       (link_there p t looked g n (full.known g looks) within l
       (Contains-append_right (received g (callee_of x) (call_result x) ++ all_from (Kept g n) (effects_of t g x)) (all_to (Kept g n) causes) l
-      (contains_map (λ u. link u (Kept g n)) causes m there))) in' within
+      (Contains-map (λ u. link u (Kept g n)) causes m there))) in' within
 
   -- something follows, as a node is retained
   effect_step : (g : FuncId) (n : NodeId) → Looks p f g → marked p starts set (Kept g n) ≡ true → (m : Mark) → Contains (effects_of t g (node_at p g n)) m → IsOwn p m
@@ -338,7 +258,7 @@ module _ (p : ProgramData) (t : Tables) (f : FuncId) (at' : Location) (base : It
       (link_there p t looked g n (full.known g looks) (marked_own p starts set (Kept g n) in') l
       (Contains-append_left (received g (callee_of x) (call_result x) ++ all_from (Kept g n) effects) (all_to (Kept g n) (causes_of p t g n x)) l
       (Contains-append_right (received g (callee_of x) (call_result x)) (all_from (Kept g n) effects) l
-      (contains_map (λ u. link (Kept g n) u) effects m there)))) in' own
+      (Contains-map (λ u. link (Kept g n) u) effects m there)))) in' own
 
   -- the returns of a callee are, as a call's register is wanted
   result_step : (g : FuncId) (n : NodeId) → Looks p f g → (callee : FuncId) (r : RegId) → callee_of (node_at p g n) ≡ Some callee → call_result (node_at p g n) ≡ Some r
@@ -379,13 +299,13 @@ module _ (p : ProgramData) (t : Tables) (f : FuncId) (at' : Location) (base : It
       let own : Own p g a = read_reads (Own p g) (node_at p g n) a (node_reads p g n whole) e in
       effect_step g n (looks_of g n h) (grown_in (Keep g n) h) (Needed (location.Cells s))
       (effect_cells t g (node_at p g n) a s e (sites_all p whole t are g a own s there))
-      (cells_own p s (points_in p whole (holder_in g a) s there (holder_is p g a own)))
+      (cells_own p s (points_both p whole (holder_in g a) s there (operand_in p g a own)).1)
   grown_in _ (slice.lives g n a s h e there) =
       let x : Node = node_at p g n in
       let own : Own p g a = All-contains (Own p g) (used_alive x) a (All-from_recursion (Own p g) (used_alive x) (alive_reads (Own p g) x (node_reads p g n whole))) e in
       effect_step g n (looks_of g n h) (grown_in (Keep g n) h) (Needed (location.Life s))
       (effect_lives t g x a s e (sites_all p whole t are g a own s there))
-      (lives_own p s (points_in p whole (holder_in g a) s there (holder_is p g a own)))
+      (lives_own p s (points_both p whole (holder_in g a) s there (operand_in p g a own)).1)
   grown_in _ (slice.input g n h e) =
       effect_step g n (looks_of g n h) (grown_in (Keep g n) h) (Needed location.Input) (effect_input t g (node_at p g n) e) (omega arith)
   grown_in _ (slice.calls g n callee m looks e h) =

@@ -1,4 +1,7 @@
 -- What a growth of a set of facts gives, and what a closing round makes of it.
+use Rattle.slice_laws.proofs.OneSlice.{same_test}
+use Rattle.slice_laws.proofs.Lists.{each_from}
+use Rattle.points_to.proofs.Parts.{first}
 use Rattle.std.specs.Prelude.{◌↔◌, ◌==◌, ◌||◌}
 use Rattle.std.proofs.Common.{◌≡◌, ◌<◌, ◌+◌, ◌++◌, ◌∙◌, ◌⊎◌, inl, inr, ℕ, Bool, true, false, List, [], ◌∷◌, length, Option, Some, None, refl, sym, ap, subst, arith, ⊎_elim}
 use Rattle.std.specs.List.{Contains, flat_map, AllByRecursion as Each}
@@ -25,8 +28,8 @@ use Rattle.slicer.specs.Places.{AreLaidOut, number, has_at, marked, mark_of, ite
 use Rattle.slicer.specs.Reached.{Reached, begins, follows, AreWithin}
 use Rattle.slicer.specs.Facts.{func, Means, IsMeant, AreGiven, Grows, ClosesOnce}
 use Rattle.slicer.proofs.Numbers.{one_mark, numbered, within_size}
-use Rattle.slicer.proofs.Carrying.{each_of, each_flat_map, links_carry}
-use Rattle.slicer.proofs.Complete.{contains_flat_map, first, marked_has, IsFull, IsOwn, grown_in, grown_looks}
+use Rattle.slicer.proofs.Carrying.{each_flat_map, links_carry}
+use Rattle.slicer.proofs.Complete.{contains_flat_map, marked_has, IsFull, IsOwn, grown_in, grown_looks}
 
 -- ---- numbers and facts
 
@@ -36,18 +39,18 @@ marked_at p starts set m k e h = subst (λ (o : Option ℕ). has_at set o ≡ tr
 pub marked_within : (p : ProgramData) (starts : List ℕ) (a b : List Bool) → Within (has a) (has b) → (m : Mark) → marked p starts a m ≡ true → marked p starts b m ≡ true
 marked_within p starts a b within m h = let w = marked_has a (number p starts m) h in marked_at p starts b m w.0 w.1 (within w.0 w.2)
 
-both_each : (P : Arrow → Type 0) (o q : Option ℕ) → ((a b : ℕ) → o ≡ Some a → q ≡ Some b → P (record { from = a; to = b })) → Each P (both o q)
-both_each P None q h = tt
-both_each P (Some a) None h = tt
-both_each P (Some a) (Some b) h = (h a b refl refl, tt)
+each_of_both : (P : Arrow → Type 0) (o q : Option ℕ) → ((a b : ℕ) → o ≡ Some a → q ≡ Some b → P (record { from = a; to = b })) → Each P (both o q)
+each_of_both P None q h = tt
+each_of_both P (Some a) None h = tt
+each_of_both P (Some a) (Some b) h = (h a b refl refl, tt)
 
 -- each arrow stands for a link
 pub arrows_within : (p : ProgramData) (starts : List ℕ) → AreLaidOut p starts → (ls : List Link) → AreWithin (size_of p starts) (flat_map (arrow_of p starts) ls)
 arrows_within p starts laid ls a =
     let P : Arrow → Type 0 = λ a. (a.from < size_of p starts) × (a.to < size_of p starts) in
     All-contains P (flat_map (arrow_of p starts) ls) a (All-from_recursion P (flat_map (arrow_of p starts) ls)
-    (each_flat_map (arrow_of p starts) P ls (each_of (λ l. Each P (arrow_of p starts l)) ls
-    (λ l there. both_each P (number p starts l.from) (number p starts l.to)
+    (each_flat_map (arrow_of p starts) P ls (each_from (λ l. Each P (arrow_of p starts l)) ls
+    (λ l there. each_of_both P (number p starts l.from) (number p starts l.to)
     (λ a b e e'. (within_size p starts laid l.from a e, within_size p starts laid l.to b e'))))))
 
 -- the arrow of a link between facts of the program
@@ -80,8 +83,8 @@ module _ (p : ProgramData) (whole : IsWhole p) (t : Tables) (are : ArePointsTo p
       let P : Arrow → Type 0 = λ a. IsMeant p f at' starts base a.from → IsMeant p f at' starts base a.to in
       let ls : List Link = links p t looked in
       All-contains P (flat_map (arrow_of p starts) ls) a (All-from_recursion P (flat_map (arrow_of p starts) ls)
-      (each_flat_map (arrow_of p starts) P ls (each_of (λ l. Each P (arrow_of p starts l)) ls
-      (λ l there. both_each P (number p starts l.from) (number p starts l.to) (λ a b e e'. arrow_means base l there a b e e')))))
+      (each_flat_map (arrow_of p starts) P ls (each_from (λ l. Each P (arrow_of p starts l)) ls
+      (λ l there. each_of_both P (number p starts l.from) (number p starts l.to) (λ a b e e'. arrow_means base l there a b e e')))))
 
   reached_means : (base : Items) (set : List Bool) → ((k : ℕ) → has set k ≡ true → IsMeant p f at' starts base k) → (k : ℕ)
       → Reached (flat_map (arrow_of p starts) (links p t looked)) (has set) k → IsMeant p f at' starts base k
@@ -129,11 +132,6 @@ module _ (p : ProgramData) (whole : IsWhole p) (t : Tables) (are : ArePointsTo p
 
 -- ---- a closing round
 
-bool_same : (a b : Bool) → (a ≡ true → b ≡ true) → (b ≡ true → a ≡ true) → a ≡ b
-bool_same true b to back = sym (to refl)
-bool_same false true to back = back refl
-bool_same false false to back = refl
-
 kept_same : (g h : FuncId) (n m : NodeId) → Kept g n ≡ Kept h m → (g ≡ h) × (n ≡ m)
 kept_same g h n m e = (cc, cc)
 
@@ -160,7 +158,7 @@ module _ (p : ProgramData) (f : FuncId) (starts : List ℕ) (laid : AreLaidOut p
   pub closing_round : IsClosingRound p f (items_of p starts old) (items_of p starts new)
   closing_round = record {
     nodes = λ g n. (kept_or_parts g n, λ h. ⊎_elim (marked_within p starts old new closes.grows (Kept g n)) (λ is. closes.all g (exactly.all g.0 is.0) n is.1) h);
-    needs = λ l. bool_same (marked p starts new (Needed l)) (marked p starts old (Needed l)) (need_same l) (marked_within p starts old new closes.grows (Needed l));
+    needs = λ l. same_test (marked p starts new (Needed l)) (marked p starts old (Needed l)) (need_same l) (marked_within p starts old new closes.grows (Needed l));
   }
 
   or_true : (a b : Bool) → b ≡ true → (a || b) ≡ false → ⊥

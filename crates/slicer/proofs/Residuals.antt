@@ -2,7 +2,7 @@
 use Rattle.std.specs.Prelude.{slice_get, slice_index_or, unwrap_or, ◌==◌, ◌||◌, if◌then◌else◌}
 use Rattle.std.proofs.Common.{◌≡◌, ◌≢◌, ◌<◌, ◌≤◌, ◌+◌, ◌++◌, ◌∙◌, ◌⊎◌, inl, inr, ℕ, zero, suc, Bool, true, false, List, [], ◌∷◌, length, map, Option, Some, None, refl, sym, ap, subst, arith, ⊎_elim}
 use Rattle.std.specs.List.{Contains}
-use Rattle.std.proofs.lemmas.Bool.{cases_lt, cases_eq, eq-eqb, eqb-true}
+use Rattle.std.proofs.lemmas.Bool.{cases_lt, cases_eq, eq-eqb, eqb-true, ne_eqb, or_left, or_from}
 use Rattle.std.proofs.lemmas.Option.{slice_get_past, slice_get_within, slice_get-get_or}
 use Rattle.control_closure.specs.declared.summing.Met.{Met}
 use Rattle.control_closure.specs.declared.summing.Met.TheVariants.{Nothing, One, Several}
@@ -32,7 +32,7 @@ use Rattle.slicer.specs.Keeping.{next_of, nexts_from, IsKeptBy, AreKept}
 use Rattle.slicer.specs.Places.{marked, items_of}
 use Rattle.slicer.specs.Settling.{IsFound}
 use Rattle.slicer.proofs.Complete.{marked_own}
-use Rattle.slicer.proofs.ClosesThem.{marked_past, or_cases, neq-eqb}
+use Rattle.slicer.proofs.ClosesThem.{marked_past, or_cases}
 
 -- ---- the nexts of the nodes
 
@@ -87,7 +87,7 @@ module _ (p : ProgramData) (f : FuncId) (l : Location) (starts : List ℕ) (set 
   end_or_kept : (g : FuncId) (n m : ℕ) → Meets (graph_of p g) (retained p g (items_of p starts set)) n m → (m ≡ end_of p g) ⊎ (marked p starts set (mark.Kept g (record { 0 = m })) ≡ true)
   end_or_kept g n m met =
       ⊎_elim (λ e. inl e)
-      (λ ne. inr (or_cases (m == end_of p g) (marked p starts set (mark.Kept g (record { 0 = m }))) (meets_kept met) (neq-eqb m (end_of p g) ne)))
+      (λ ne. inr (or_cases (m == end_of p g) (marked p starts set (mark.Kept g (record { 0 = m }))) (meets_kept met) (ne_eqb m (end_of p g) ne)))
       (cases_eq m (end_of p g))
 
   kept_below : (g : FuncId) (m : ℕ) → marked p starts set (mark.Kept g (record { 0 = m })) ≡ true → m < end_of p g
@@ -125,14 +125,6 @@ record Summed (p : ProgramData) (starts : List ℕ) (set : List Bool) (list : Li
   start : (kept : Kept) → slice_get list g.0 ≡ Some kept → kept.start ≡ next_of (at_node mets 0) (end_of p g)
   nexts : (kept : Kept) → slice_get list g.0 ≡ Some kept → kept.nexts ≡ nexts_from p starts set g mets (end_of p g) 0 (nodes_of (func_at p g))
 
-or_left : (a b : Bool) → a ≡ true → (a || b) ≡ true
-or_left true b e = refl
-or_left false b e = absurd (cc)
-
-or_none : (a b : Bool) → a ≡ false → b ≡ false → (a || b) ≡ false
-or_none true b e h = absurd (cc)
-or_none false b e h = h
-
 -- a function that isn't there
 sums_past : (p : ProgramData) (starts : List ℕ) (set : List Bool) (list : List Kept) (g : FuncId) → length p.funcs ≤ g.0 → length list ≡ length p.funcs → Summed p starts set list g
 sums_past p starts set list g far size =
@@ -143,7 +135,7 @@ sums_past p starts set list g far size =
       mets = One 0 ∷ [];
       sums = no_sums (graph_of p g) (retained p g (items_of p starts set)) (ap (λ (o : Option Func). map (leads_to (length (nodes_of o))) (nodes_of o) ++ [] ∷ []) e)
           (or_left (0 == end_of p g) (marked p starts set (mark.Kept g (record { 0 = 0 }))) (eq-eqb 0 (end_of p g) (sym end)))
-          (λ n. or_none (suc n == end_of p g) (marked p starts set (mark.Kept g (record { 0 = suc n }))) (neq-eqb (suc n) (end_of p g) (omega (arith, end)))
+          (λ n. or_from (suc n == end_of p g) (marked p starts set (mark.Kept g (record { 0 = suc n }))) (ne_eqb (suc n) (end_of p g) (omega (arith, end)))
           (marked_past p starts set g (suc n) (omega (arith, end))));
       start = λ kept h. absurd (cc);
       nexts = λ kept h. absurd (cc);

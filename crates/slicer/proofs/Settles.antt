@@ -31,16 +31,11 @@ use Rattle.slicer.proofs.Grows.{grows, marked_at, closing_round, is_closed, give
 location_own : (p : ProgramData) (l : Location) → IsLocationOf p l → IsOwn p (Needed l)
 location_own p (location.Cells s) h = cells_own p s h
 location_own p (location.Life s) h = lives_own p s h
-location_own p location.Input h = omega arith
-location_own p location.Output h = omega arith
-location_own p location.Result h = omega arith
+location_own p _ h = omega arith
 
 result_is : (l : Location) → is_result l ≡ true → l ≡ location.Result
-result_is (location.Cells s) h = absurd (cc)
-result_is (location.Life s) h = absurd (cc)
-result_is location.Input h = absurd (cc)
-result_is location.Output h = absurd (cc)
 result_is location.Result h = refl
+result_is _ h = absurd (cc)
 
 returns_mean : (p : ProgramData) (f : FuncId) (l : Location) → l ≡ location.Result → Means p f l nothing (Returns f)
 returns_mean p f l e = λ k ret. slice.returns k e ret

@@ -1,4 +1,5 @@
 -- Laws of what is reached.
+use Rattle.control_closure.specs.SumLaws.{has-below}
 use Rattle.std.specs.Prelude.{slice_index_or}
 use Rattle.std.proofs.Common.{◌≡◌, ◌<◌, ◌≤◌, ◌-◌, ◌+◌, ◌∙◌, ℕ, Bool, true, false, List, length, refl, sym, ap, subst, arith, ⊎_elim}
 use Rattle.std.specs.List.{Contains}
@@ -15,10 +16,6 @@ Fires-more arrows given rule S T U V f s u = record {
   follows = λ le h. u (arrow_at arrows (rule - length given)).to (f.follows le (s (arrow_at arrows (rule - length given)).from h));
 }
 
-pub has_below : (set : List Bool) (k : ℕ) → has set k ≡ true → k < length set
-has_below set k h =
-    ⊎_elim (λ lt. lt) (λ past. let e : has set k ≡ false = get_or_past set k false past in absurd (cc)) (cases_lt k (length set))
-
 -- each arrow has its rule
 arrow_there : (arrows : List Arrow) (a : Arrow) (k : ℕ) → k < length arrows → slice_index_or arrows k a ≡ a → arrow_at arrows (length arrows - 1 - k) ≡ a
 arrow_there arrows a k lt e =
@@ -28,7 +25,7 @@ arrow_there arrows a k lt e =
 
 pub Reached-least : (arrows : List Arrow) (given : List Bool) (S : ℕ → Bool) →
     ((rule : ℕ) → rule < length given + length arrows → FiresAt arrows given rule S S) → (k : ℕ) → Reached arrows (has given) k → S k ≡ true
-Reached-least arrows given S fires k (begins _ h) = let lt = has_below given k h in (fires k (omega arith)).begins lt h
+Reached-least arrows given S fires k (begins _ h) = let lt = has-below given k h in (fires k (omega arith)).begins lt h
 Reached-least arrows given S fires _ (follows a there r) =
     let i : ℕ = length arrows - 1 - there.0 in
     let is : arrow_at arrows i ≡ a = arrow_there arrows a there.0 there.1 there.2 in

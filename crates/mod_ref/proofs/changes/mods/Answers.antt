@@ -1,6 +1,5 @@
-use Rattle.std.proofs.Common.{◌≡◌, ◌+◌, ◌<◌, ◌∙◌, rules, ap, arith, length}
+use Rattle.std.proofs.Common.{◌≡◌, ◌∙◌, rules, ap, arith, length}
 use Rattle.flat_ir.specs.declared.program.ProgramData.{ProgramData}
-use Rattle.mod_ref.specs.Callers.{func}
 use Rattle.mod_ref.proofs.Choosing.{here_changes, one_longer, one_list_more}
 use Rattle.mod_ref.proofs.changes.mods.Goals as goal
 

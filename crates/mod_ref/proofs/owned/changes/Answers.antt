@@ -1,6 +1,4 @@
-use Rattle.std.proofs.Common.{◌≡◌, ◌∙◌, Option, Some, sym, subst}
-use Rattle.flat_ir.specs.declared.names.Location.{Location}
-use Rattle.mod_ref.specs.Changes.{changed_by}
+use Rattle.std.proofs.Common.{◌≡◌, ◌∙◌, Some, sym}
 use Rattle.mod_ref.specs.Callers.{Writes}
 use Rattle.mod_ref.proofs.OwnChanges.{from_change, from_write, reads_here, tells_of, tells_not, told_at_last}
 use Rattle.mod_ref.proofs.owned.changes.Goals as goal

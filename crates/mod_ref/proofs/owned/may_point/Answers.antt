@@ -1,4 +1,4 @@
-use Rattle.std.proofs.Common.{◌≡◌, ap}
+use Rattle.std.proofs.Common.{ap}
 use Rattle.points_to.specs.Asked.{holder_in}
 use Rattle.mod_ref.proofs.OwnChanges.{reg_points, global_points, none_points}
 use Rattle.mod_ref.proofs.owned.may_point.Goals as goal

@@ -1,8 +1,9 @@
 use Rattle.std.proofs.Common.{◌≡◌, ◌<◌, ◌≤◌, ℕ, true, List, length, sym, subst}
+use Rattle.std.proofs.lemmas.Bool.{both_ways}
 use Rattle.flat_ir.specs.declared.names.Site.{Site}
 use Rattle.points_to.specs.Points.{rank, site_at}
 use Rattle.points_to.specs.Rows.{IsRow, AddsToRow}
-use Rattle.points_to.proofs.Inserting.{put_in, not_both}
+use Rattle.points_to.proofs.Inserting.{put_in}
 use Rattle.points_to.proofs.rows.Row.add.Goals as goal
 
 pub returns : goal.returns
@@ -17,4 +18,4 @@ returns c =
     subst (λ (old : List Site). AddsToRow old s true c.insert.new.self.items) c.self.view_is
     (subst (λ (new : List Site). AddsToRow items s true new) (sym c.in_ok-insert.ensures.items)
     (put_in items at s (subst (λ (xs : List Site). IsRow xs) (sym c.self.view_is) c.requires.row) c.requires.small within below above
-    (λ w. not_both c.stands_at.result (tells w) c.if-stands_at.false)))
+    (λ w. both_ways c.stands_at.result c.if-stands_at.false (tells w))))
